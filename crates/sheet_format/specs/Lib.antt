@@ -1,0 +1,11 @@
+pub mod Boards
+pub mod Cuts
+pub mod Fields
+pub mod Laws
+pub mod Lines
+pub mod Numbers
+pub mod Read
+pub mod Reading
+pub mod Sheets
+pub mod Spelling
+pub mod WellFormed
