@@ -1,0 +1,5 @@
+pub mod Marks
+pub mod Four
+pub mod Before
+pub mod Then
+pub mod Counted
