@@ -1,0 +1,4 @@
+//! Reading a sheet into tables that the caller lends.
+
+mod cursor;
+mod reader;
