@@ -66,8 +66,8 @@ module _ {A : Type 0} (f : List A → LineReading A) where
       let q = on-ok-parts (counted-lines n f (p .0 .0 ∷ seen) (p .0 .1)) (λ y. Ok (p .0 .0 ∷ y .0, y .1)) (xs, m) (p .2) in
       ok-along (λ z. next-line (f (reverse (z .0) ++ seen)) (z .1) ≡ Ok (a, m′) → counted-lines (suc (suc n)) f seen l ≡ Ok (z .0 ++ a ∷ [], m′)) (p .0 .0 ∷ q .0 .0, q .0 .1) (xs, m) (q .2)
       (λ k.
-          let more = counted-push n (p .0 .0 ∷ seen) (q .0 .0) (p .0 .1) (q .0 .1) m′ a (q .1) (ap (λ s. next-line (f s) (q .0 .1)) (sym (reverse-cons (p .0 .0) (q .0 .0) seen)) ∙ k) in
-          ap (λ r. on-ok r (after-first (suc n) seen)) (p .1) ∙ ap (λ r. on-ok r (λ y. Ok (p .0 .0 ∷ y .0, y .1))) more)
+      let more = counted-push n (p .0 .0 ∷ seen) (q .0 .0) (p .0 .1) (q .0 .1) m′ a (q .1) (ap (λ s. next-line (f s) (q .0 .1)) (sym (reverse-cons (p .0 .0) (q .0 .0) seen)) ∙ k) in
+      ap (λ r. on-ok r (after-first (suc n) seen)) (p .1) ∙ ap (λ r. on-ok r (λ y. Ok (p .0 .0 ∷ y .0, y .1))) more)
       h
 
   -- n lines passed, and the next one is refused
@@ -80,9 +80,9 @@ module _ {A : Type 0} (f : List A → LineReading A) where
       let q = on-ok-parts (counted-lines n f (p .0 .0 ∷ seen) (p .0 .1)) (λ y. Ok (p .0 .0 ∷ y .0, y .1)) (xs, m) (p .2) in
       ok-along (λ z. next-line (f (reverse (z .0) ++ seen)) (z .1) ≡ Err e → counted-lines (suc k) f seen l ≡ Err e) (p .0 .0 ∷ q .0 .0, q .0 .1) (xs, m) (q .2)
       (λ s.
-          let less : n < k = omega arith in
-          let stop = counted-stop n k (p .0 .0 ∷ seen) (q .0 .0) (p .0 .1) (q .0 .1) e less (q .1) (ap (λ t. next-line (f t) (q .0 .1)) (sym (reverse-cons (p .0 .0) (q .0 .0) seen)) ∙ s) in
-          ap (λ r. on-ok r (after-first k seen)) (p .1) ∙ ap (λ r. on-ok r (λ y. Ok (p .0 .0 ∷ y .0, y .1))) stop)
+      let less : n < k = omega arith in
+      let stop = counted-stop n k (p .0 .0 ∷ seen) (q .0 .0) (p .0 .1) (q .0 .1) e less (q .1) (ap (λ t. next-line (f t) (q .0 .1)) (sym (reverse-cons (p .0 .0) (q .0 .0) seen)) ∙ s) in
+      ap (λ r. on-ok r (after-first k seen)) (p .1) ∙ ap (λ r. on-ok r (λ y. Ok (p .0 .0 ∷ y .0, y .1))) stop)
       h
 
   -- a line that passes is written behind those before it

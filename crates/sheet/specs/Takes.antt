@@ -27,7 +27,7 @@ abbrev pub Takes : {A : Type 0} → Reading A → Reader → Reader → Result A
 Takes f a b (Ok x) = (f (left-of a) ≡ Ok (x, left-of b)) × (b .sheet ≡ a .sheet)
 Takes f a b (Err e) = f (left-of a) ≡ Err e
 
--- the same for a list, which stands at the front of a table
-abbrev pub TakesInto : {A : Type 0} → Reading (List A) → Reader → Reader → List A → Result ℕ Fault → Type 0
-TakesInto f a b table (Ok n) = (f (left-of a) ≡ Ok (take n table, left-of b)) × (b .sheet ≡ a .sheet) × (n ≤ length table)
-TakesInto f a b table (Err e) = f (left-of a) ≡ Err e
+-- the same for a list of at most so many entries, which stands at the front of a table
+abbrev pub TakesInto : {A : Type 0} → Reading (List A) → ℕ → Reader → Reader → List A → Result ℕ Fault → Type 0
+TakesInto f most a b table (Ok n) = (f (left-of a) ≡ Ok (take n table, left-of b)) × (b .sheet ≡ a .sheet) × (n ≤ length table) × (n ≤ most)
+TakesInto f most a b table (Err e) = f (left-of a) ≡ Err e

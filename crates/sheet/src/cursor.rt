@@ -95,7 +95,7 @@ pub(crate) fn read_section<'a, E: Copy, K: LineKind<E>>(
     table: &mut [E],
 ) -> Result<usize, Fault>
     requires { ⌜ high ≤ length (now table) ⌝ }
-    ensures { λ r. ⌜ TakesInto (section (now (name .entry)) low high room (reading (now (kind .entry)))) (now (reader .entry)) (now (reader .exit)) (now (table .exit)) r ⌝ }
+    ensures { λ r. ⌜ TakesInto (section (now (name .entry)) low high room (reading (now (kind .entry)))) high (now (reader .entry)) (now (reader .exit)) (now (table .exit)) r ⌝ }
 {
     let count = read_header(reader, name, low, high, room)? as usize;
     for i in 0..count {

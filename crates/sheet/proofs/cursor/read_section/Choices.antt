@@ -8,4 +8,4 @@ use Rattle.sheet.specs.Takes.{left-of}
 use Rattle.sheet.proofs.cursor.read_section.Given as given
 
 abbrev pub Inv-loop-i : given.InvT-loop-i
-Inv-loop-i g l = (length (l .table) ≡ length (l .entry .table)) × (l .count ≤ length (l .table)) × (l .reader .sheet ≡ l .entry .reader .sheet) × (counted-lines (l .i) (g .K·LineKind .reading (l .kind)) [] (left-of (l .entry .reader)) ≡ Ok (take (l .i) (l .table), left-of (l .reader)))
+Inv-loop-i g l = (length (l .table) ≡ length (l .entry .table)) × (l .count ≤ length (l .table)) × (l .count ≤ l .high) × (l .reader .sheet ≡ l .entry .reader .sheet) × (counted-lines (l .i) (g .K·LineKind .reading (l .kind)) [] (left-of (l .entry .reader)) ≡ Ok (take (l .i) (l .table), left-of (l .reader)))
