@@ -4,5 +4,6 @@ mod cursor;
 mod parts;
 mod reader;
 mod sections;
+mod whole;
 
 pub use parts::Outline;

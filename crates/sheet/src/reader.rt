@@ -4,6 +4,7 @@ ghost use denote.Ref.{now as behind};
 ghost use lib.ListN.{length};
 
 // The bytes of a sheet, the byte that the next line begins at, and that line's number.
+#[derive(Drop)]
 pub(crate) struct Reader<'a> {
     pub(crate) sheet: &'a [u8],
     pub(crate) at: usize,
