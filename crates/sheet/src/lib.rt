@@ -4,6 +4,7 @@ mod cursor;
 mod parts;
 mod reader;
 mod sections;
+mod tables;
 mod whole;
 
 pub use parts::Outline;
