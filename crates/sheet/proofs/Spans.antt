@@ -85,7 +85,7 @@ entries-push ms p (y ∷ xs) x =
     let same : suc p + length xs ≡ p + suc (length xs) = omega arith in
     ap (λ l. entry-at ms p y ∷ l) (entries-push ms (suc p) xs x ∙ ap (λ q. entries-from ms (suc p) xs ++ entry-at ms q x ∷ []) same)
 
-length-entries : (ms : List Move) (p : ℕ) (xs : List Position) → length (entries-from ms p xs) ≡ length xs
+pub length-entries : (ms : List Move) (p : ℕ) (xs : List Position) → length (entries-from ms p xs) ≡ length xs
 length-entries ms p [] = refl
 length-entries ms p (x ∷ xs) = ap suc (length-entries ms (suc p) xs)
 

@@ -1,3 +1,4 @@
 pub mod Takes
 pub mod Sections
 pub mod Filled
+pub mod Spells

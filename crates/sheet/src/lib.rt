@@ -3,8 +3,10 @@
 mod cursor;
 mod parts;
 mod reader;
+mod reading;
 mod sections;
 mod tables;
 mod whole;
 
 pub use parts::Outline;
+pub use reading::read;

@@ -17,8 +17,7 @@ loop-p-again c =
     let ms = c .args .moves .now in
     let p = c .loop-p .p in
     let end : c .run-end-end .result ≡ count-before p ms + count-from p ms = run-to p ms (c .loop-p .first) (c .run-end-end .result) 0 first (c .run-end-end .ensures .end) (c .pre .1 .1 .1) in
-    let degree : c .run-end-end .result - c .loop-p .first ≡ count-from p ms = omega (arith, end, first) in
-    (
+    let degree : c .run-end-end .result - c .loop-p .first ≡ count-from p ms = omega (arith, end, first) in (
       length-set (c .loop-p .table) p _ ∙ c .loop-p .inv .0,
       c .run-end-end .ensures .within,
       end ∙ sym (before-next p ms),
