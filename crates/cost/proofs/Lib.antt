@@ -1,0 +1,3 @@
+pub mod CareLaws
+pub mod EnergyLaws
+pub mod PeakLaws

@@ -1,0 +1,6 @@
+use native.Mathlib.Omega.{arith}
+use Rattle.cost.proofs.EnergyLaws.{energy-same}
+use Rattle.cost.proofs.energy.EnergyCost.from_numbers.Needs as need
+
+pub returns : need.returns
+returns c = energy-same _ _ (omega arith)

@@ -1,0 +1,15 @@
+pub mod Chains
+pub mod Choosing
+pub mod Ends
+pub mod Firsts
+pub mod Holding
+pub mod Moves
+pub mod Numbers
+pub mod Planning
+pub mod Playing
+pub mod Promised
+pub mod Rounds
+pub mod Running
+pub mod Steps
+pub mod Unrolled
+pub mod Values

@@ -1,0 +1,3 @@
+pub mod Extremes
+pub mod Lowest
+pub mod Pigeons

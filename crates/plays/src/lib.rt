@@ -1,0 +1,1 @@
+//! Paths and plays over a board's table: definitions alone.

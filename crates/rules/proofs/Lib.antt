@@ -1,0 +1,4 @@
+pub mod Each
+pub mod Placed
+pub mod Split
+pub mod Turns

@@ -1,0 +1,4 @@
+pub mod Digits
+pub mod Holds
+pub mod InRange
+pub mod Means

@@ -1,0 +1,4 @@
+pub mod Fitting
+pub mod Places
+pub mod Sheets
+pub mod Tests

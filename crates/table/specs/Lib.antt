@@ -1,0 +1,4 @@
+pub mod Fit
+pub mod Laws
+pub mod Meaning
+pub mod Ranges

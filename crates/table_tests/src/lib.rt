@@ -1,0 +1,4 @@
+//! Boards over tables, by example.
+
+#[cfg(test)]
+mod tests;

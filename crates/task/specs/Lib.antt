@@ -1,0 +1,2 @@
+pub mod Dfa
+pub mod Signs

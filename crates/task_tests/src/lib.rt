@@ -1,0 +1,4 @@
+//! Tests of tasks and of joined boards.
+
+#[cfg(test)]
+mod tests;
