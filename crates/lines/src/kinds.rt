@@ -1,5 +1,5 @@
 // Lines that come in sections.
-ghost use mathlib.Core.List.{List, reverse};
+ghost use mathlib.Core.List.{List, [], reverse};
 ghost use mathlib.Core.Path.{_≡_};
 ghost use Prim.Native.Nat.{ℕ};
 ghost use Rattle.sheet_format.specs.Cuts.{words};
@@ -56,20 +56,27 @@ pub struct ArrowLines {
     pub states: u32,
 }
 
+// The arrow of a line, between so many states.
+fn arrow(line: &Line<'_>, states: u32) -> Result<Arrow, LineFault>
+    ensures { λ r. ⌜ r ≡ arrow-line states [] (words (now (now (line .entry) .bytes))) ⌝ }
+{
+    fields::word_count(line, 4)?;
+    let from = fields::number_below(line, 1, states)?;
+    let need = fields::number(line, 2, 0, 65535)?;
+    let bar = fields::number(line, 3, 0, 65535)?;
+    let to = fields::number_below(line, 4, states)?;
+    Ok(Arrow {
+        from,
+        need,
+        bar,
+        to,
+    })
+}
+
 pub impl LineKind<Arrow> for ArrowLines as ArrowLineKind {
     ghost reading = { λ k. arrow-line (k .states) };
 
     fn entry(&self, line: &Line<'_>, before: &[Arrow]) -> Result<Arrow, LineFault> {
-        fields::word_count(line, 4)?;
-        let from = fields::number_below(line, 1, self.states)?;
-        let need = fields::number(line, 2, 0, 65535)?;
-        let bar = fields::number(line, 3, 0, 65535)?;
-        let to = fields::number_below(line, 4, self.states)?;
-        Ok(Arrow {
-            from,
-            need,
-            bar,
-            to,
-        })
+        arrow(line, self.states)
     }
 }

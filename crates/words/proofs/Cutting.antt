@@ -1,7 +1,6 @@
 -- Steps over the bytes of a sheet and of a line.
 use mathlib.Core.Bool.{true, false, cond}
 use mathlib.Core.List.{List, [], _∷_, _++_, append-assoc, append-nil}
-use mathlib.Core.Logic.{⊎-elim}
 use mathlib.Core.Path.{_≡_, refl, sym, ap, ap₂, _∙_}
 use Prim.Native.Nat.{ℕ, suc, _+_, _-_, _≤_, _<_}
 use native.Mathlib.Omega.{arith}
@@ -11,9 +10,9 @@ use lib.Seq.{getD-drop}
 use Rattle.std.specs.declared.option.Option.{Option}
 use Rattle.std.specs.declared.option.Option.the-variants.{Some, None}
 use Rattle.std.proofs.shelf.Lists.{take-more, drop-more, drop-all, length-drop, drop-drop, getD-past, length-take-le}
-use Rattle.std.proofs.shelf.Tests.{eq-eqb, ne-eqb, cond-true, cond-false, lt-ltb, le-ltb, cases-eq}
+use Rattle.std.proofs.shelf.Tests.{eq-eqb, ne-eqb, cond-true, cond-false, lt-ltb, le-ltb}
 use Rattle.sheet_format.specs.Cuts.{longer, first-line, in-front, words}
-use Rattle.words.specs.Parts.{line-to, WordTo, WordFrom, words-after}
+use Rattle.words.specs.Parts.{LineTo, WordTo, WordFrom, words-after}
 
 -- the part from one index up to another, and one byte more
 pub part-more : (s : List ℕ) (from i : ℕ) → from ≤ i → i < length s → take (i + 1 - from) (drop from s) ≡ take (i - from) (drop from s) ++ getD s i 0 ∷ []
@@ -132,16 +131,19 @@ none-left l k at end place h w past lt =
       first = ap (λ ws. getD ws 0 []) (words-end l end past) ∙ sym (getD-past (words l) place [] (omega (arith, length-drop k (words l))));
     }
 
--- a line that begins past the end is not there
-pub line-past : (s : List ℕ) (start : ℕ) → length s ≤ start → first-line (drop start s) ≡ None
-line-past s start past = ap first-line (drop-all start s past)
-
 -- a line from its start up to its LF
-pub line-part : (s bytes : List ℕ) (start end : ℕ) → start ≤ end → end < length s → bytes ≡ take (end - start) (drop start s) → first-line (drop start s) ≡ line-to s start (Some end) → (first-line (drop start s) ≡ Some (bytes, drop (start + length bytes + 1) s)) × (bytes ≡ take (length bytes) (drop start s)) × (start + length bytes < length s)
-line-part s bytes start end low high part h =
-    let long : length bytes ≡ end - start = ap length part ∙ length-take-le (end - start) (drop start s) (omega (arith, length-drop start s)) in
-    let stop : end + 1 ≡ start + length bytes + 1 = omega arith in
-    (h ∙ ap₂ (λ b r. Some (b, r)) (sym part) (ap (λ k. drop k s) stop), part ∙ ap (λ k. take k (drop start s)) (sym long), omega arith)
+pub line-part : (s : List ℕ) (start end : ℕ) → start ≤ end → end < length s → first-line (drop start s) ≡ Some (take (end - start) (drop start s), drop (end + 1) s) → LineTo s start (Some end)
+line-part s start end low high h =
+    let long : length (take (end - start) (drop start s)) ≡ end - start = length-take-le (end - start) (drop start s) (omega (arith, length-drop start s)) in
+    let stop : end + 1 ≡ start + length (take (end - start) (drop start s)) + 1 = omega arith in (
+      low,
+      high,
+      record {
+        first = h ∙ ap (λ k. Some (take (end - start) (drop start s), drop k s)) stop;
+        part = ap (λ k. take k (drop start s)) (sym long);
+        within = omega arith;
+      },
+    )
 
 -- how many words a line has, from those that are left
 pub words-pass-space : (l : List ℕ) (i n : ℕ) → i < length l → getD l i 0 ≡ 32 → n + length (words (drop i l)) ≡ length (words l) → n + 1 + length (words (drop (i + 1) l)) ≡ length (words l)
@@ -162,11 +164,6 @@ word-cut l k from end a b = sym (ap (λ ws. getD ws 0 []) (b .cut)) ∙ a .first
 pub part-of-itself : (l : List ℕ) (from end : ℕ) → WordTo l from end → take (end - from) (drop from l) ≡ take (length (take (end - from) (drop from l))) (drop from l)
 part-of-itself l from end w =
     ap (λ n. take n (drop from l)) (sym (length-take-le (end - from) (drop from l) (omega (arith, length-drop from l, w .low, w .high))))
-
--- two equations that hold together have the same test
-pub same-test : (a b x y : ℕ) → (a ≡ b → x ≡ y) → (x ≡ y → a ≡ b) → eqb a b ≡ eqb x y
-same-test a b x y to back =
-    ⊎-elim (λ (e : a ≡ b). eq-eqb a b e ∙ sym (eq-eqb x y (to e))) (λ (n : a ≡ b → ⊥). ne-eqb a b n ∙ sym (ne-eqb x y (λ e. n (back e)))) (cases-eq a b)
 
 -- a word of one byte
 pub one-byte : (w : List ℕ) (b : ℕ) → length w ≡ 1 → getD w 0 0 ≡ b → w ≡ b ∷ []

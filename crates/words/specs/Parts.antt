@@ -12,15 +12,21 @@ use Rattle.words.specs.declared.parts.Line.{Line}
 use Rattle.words.specs.declared.parts.PlacedWord.{PlacedWord}
 use Rattle.words.specs.Kinds.{Says, word-bytes}
 
--- the line from one index up to the LF at another, and what stands after it
-abbrev pub line-to : List ℕ → ℕ → Option ℕ → Option (List ℕ × List ℕ)
-line-to s from None = None
-line-to s from (Some end) = Some (take (end - from) (drop from s), drop (end + 1) s)
+-- these bytes of a sheet are the line that begins at `start`
+pub record LineIs (s : List ℕ) (start : ℕ) (bytes : List ℕ) : Type 0 where
+  pub first : first-line (drop start s) ≡ Some (bytes, drop (start + length bytes + 1) s)
+  pub part : bytes ≡ take (length bytes) (drop start s)
+  pub within : start + length bytes < length s
 
--- line `number` begins at `start`, and ends at the first LF after it
+-- the line from one index ends with the LF at another, or has none
+abbrev pub LineTo : List ℕ → ℕ → Option ℕ → Type 0
+LineTo s from None = first-line (drop from s) ≡ None
+LineTo s from (Some end) = (from ≤ end) × (end < length s) × LineIs s from (take (end - from) (drop from s))
+
+-- line `number` begins at `start`, and ends with the first LF after it
 abbrev pub FirstLine : List ℕ → ℕ → ℕ → Option Line → Type 0
 FirstLine s start number None = first-line (drop start s) ≡ None
-FirstLine s start number (Some l) = (first-line (drop start s) ≡ Some (l .bytes .now, drop (start + length (l .bytes .now) + 1) s)) × (l .bytes .now ≡ take (length (l .bytes .now)) (drop start s)) × (start + length (l .bytes .now) < length s) × (l .number ≡ number) × (l .start ≡ start)
+FirstLine s start number (Some l) = LineIs s start (l .bytes .now) × (l .number ≡ number) × (l .start ≡ start)
 
 -- the words after one that ends at `end`: none if the line ends there
 abbrev pub words-after : List ℕ → ℕ → List (List ℕ)

@@ -1,21 +1,18 @@
 // The lines of a sheet, and the words of a line.
 ghost use mathlib.Core.Bool.{Bool};
 ghost use mathlib.Core.Path.{_≡_};
-ghost use Prim.Native.Nat.{ℕ, _-_, _≤_, _<_};
+ghost use Prim.Native.Nat.{ℕ, _+_, _-_, _≤_};
 ghost use lib.Dec.{eqb};
-ghost use lib.ListN.{length, drop};
-ghost use Rattle.std.specs.Slices.{found};
-ghost use Rattle.sheet_format.specs.Cuts.{words, first-line};
-ghost use Rattle.words.specs.Parts.{line-to, FirstLine, WordTo, WordFrom, WordAt};
+ghost use lib.ListN.{length};
+ghost use Rattle.sheet_format.specs.Cuts.{words};
+ghost use Rattle.words.specs.Parts.{LineTo, FirstLine, WordTo, WordFrom, WordAt};
 use crate::parts::Line;
 use crate::parts::PlacedWord;
 use crate::parts::Word;
 
 // Where the line that begins at `from` ends, if it has an LF.
 fn line_end(sheet: &[u8], from: usize) -> Option<usize>
-    requires { ⌜ from ≤ length (now sheet) ⌝ }
-    ensures line { λ r. ⌜ first-line (drop from (now (sheet .entry))) ≡ line-to (now (sheet .entry)) from r ⌝ }
-    ensures within { λ r. ⌜ found r (λ end. (from ≤ end) × (end < length (now (sheet .entry)))) ⌝ }
+    ensures { λ r. ⌜ LineTo (now (sheet .entry)) from r ⌝ }
 {
     let mut i = from;
     while i < sheet.len() {
@@ -57,14 +54,24 @@ fn word_start(line: &[u8], place: usize) -> usize
     at
 }
 
+// How many spaces a line has: one fewer than words.
+fn count_spaces(line: &[u8]) -> usize
+    ensures { λ r. ⌜ r + 1 ≡ length (words (now (line .entry))) ⌝ }
+{
+    let mut spaces = 0;
+    for b in line {
+        if *b == 32 {
+            spaces += 1;
+        }
+    }
+    spaces
+}
+
 impl<'a> Line<'a> {
     /// The line that begins at a byte of a sheet, under a number; none if it has no LF.
     pub fn first(sheet: &'a [u8], start: usize, number: usize) -> Option<Line<'a>>
         ensures { λ r. ⌜ FirstLine (now (sheet .entry)) start number r ⌝ }
     {
-        if start > sheet.len() {
-            return None;
-        }
         match line_end(sheet, start) {
             Some(end) => Some(Line {
                 bytes: &sheet[start..end],
@@ -79,12 +86,7 @@ impl<'a> Line<'a> {
     pub fn has_words(&self, n: usize) -> bool
         ensures { λ r. ⌜ r ≡ eqb (length (words (now (now (self .entry) .bytes)))) n ⌝ }
     {
-        let mut spaces = 0;
-        for b in self.bytes {
-            if *b == 32 {
-                spaces += 1;
-            }
-        }
+        let spaces = count_spaces(self.bytes);
         n > 0 && spaces == n - 1
     }
 
