@@ -10,7 +10,7 @@ use Rattle.std.proofs.shelf.Lists.{length-map}
 use Rattle.board.specs.Table.{Row, Table, row-at, move-at}
 use Rattle.board.specs.Ranges.{InRange}
 use Rattle.plays.specs.Paths.{move-of, IsPath, endpoint, labels, charges}
-use Rattle.plays.specs.Plays.{MayMove, Play}
+use Rattle.plays.specs.Plays.{Allowed, Play}
 use Rattle.task.specs.Dfa.{Dfa, DfaInRange, state-after, accepts}
 use Rattle.product.specs.Product.{joined-move, joined-row, joined}
 use Rattle.product.specs.Joins.{finished, Unfinished, Tracks, IsJoin}
