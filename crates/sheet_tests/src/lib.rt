@@ -1,0 +1,4 @@
+//! Reading a sheet into tables, by example.
+
+#[cfg(test)]
+mod tests;
