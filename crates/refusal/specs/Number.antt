@@ -1,7 +1,7 @@
 -- The number of each refusal.
 use Prim.Native.Nat.{ℕ}
 use Rattle.refusal.specs.declared.Refusal.{Refusal}
-use Rattle.refusal.specs.declared.Refusal.the-variants.{EndsEarly, WrongSection, NotANumber, OutOfRange, WordCount, UnknownMark, FromFalls, TooManyMoves, PastTheEnd, ShortTable, TooLong, PersonPays, JoinTooLarge}
+use Rattle.refusal.specs.declared.Refusal.the-variants.{EndsEarly, WrongSection, NotANumber, OutOfRange, WordCount, UnknownMark, FromFalls, TooManyMoves, PastTheEnd, ShortTable, TooLong, PersonPays, JoinTooLarge, ShortCells}
 
 -- as the formats print it
 abbrev pub refusal-number : Refusal → ℕ
@@ -18,3 +18,4 @@ refusal-number ShortTable = 10
 refusal-number TooLong = 11
 refusal-number PersonPays = 12
 refusal-number JoinTooLarge = 22
+refusal-number ShortCells = 30

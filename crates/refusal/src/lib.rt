@@ -32,6 +32,8 @@ pub enum Refusal {
     PersonPays = 12,
     /// The joined board would have more than 4,096 positions.
     JoinTooLarge = 22,
+    /// One of the cell lists is shorter than the board.
+    ShortCells = 30,
 }
 
 impl Refusal {

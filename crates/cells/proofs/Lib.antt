@@ -1,0 +1,6 @@
+pub mod Alternate
+pub mod Asked
+pub mod Leading
+pub mod Nexts
+pub mod Reading
+pub mod Sweeps

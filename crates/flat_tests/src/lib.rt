@@ -1,0 +1,4 @@
+//! Flat copies of boards, by example.
+
+#[cfg(test)]
+mod tests;
