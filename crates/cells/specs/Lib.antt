@@ -1,3 +1,4 @@
 pub mod Cells
 pub mod Leads
+pub mod Said
 pub mod Written

@@ -1,0 +1,4 @@
+//! Solving, by example.
+
+#[cfg(test)]
+mod tests;
