@@ -1,4 +1,5 @@
 //! The automaton task: states, and arrows that are followed by the signs of a label.
+#![tactic(auto)]
 
 mod answers;
 mod holder;

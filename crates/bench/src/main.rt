@@ -1,4 +1,5 @@
 //! Reads a sheet from standard input and prints an account of it, or its one refusal.
+#![tactic(auto)]
 
 use account::respond;
 use std::io;

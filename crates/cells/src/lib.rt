@@ -1,4 +1,5 @@
 //! Cells, which keep the value, the choice and the first round of a position, and what a solver asks of values and boards.
+#![tactic(auto)]
 
 mod parts;
 mod questions;

@@ -1,4 +1,5 @@
 //! A small client: it solves a board, follows a run, ends it, and solves the board again into the same cells.
+#![tactic(auto)]
 
 use board::{Board, Turn};
 use cells::Cell;

@@ -1,4 +1,5 @@
 //! Costs: the interface that solving and running ask, its laws, and the three kinds of cost.
+#![tactic(auto)]
 
 mod care;
 mod energy;

@@ -1,4 +1,5 @@
 //! What is said to `follow`, and what it answers: one line each.
+#![tactic(auto)]
 
 mod numerals;
 mod parts;

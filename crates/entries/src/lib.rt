@@ -1,4 +1,5 @@
 //! What a sheet's lines say: the entries of its tables.
+#![tactic(auto)]
 
 use board::Turn;
 

@@ -1,4 +1,6 @@
 //! Worked examples, as theorems about the definitions that the contracts cite.
+#![tactic(auto)]
+
 ghost use Rattle.std.specs.List.{AllByRecursion as All};
 ghost use Rattle.examples.specs.Claims.{Holds};
 ghost use Rattle.examples.specs.PeakAndEnergy.{PeakIsNotEnergy};

@@ -1,4 +1,5 @@
 //! Prints the report on each sheet that its arguments name, after the sheet's name.
+#![tactic(auto)]
 
 use report::report;
 use std::io::{BufWriter, Write};

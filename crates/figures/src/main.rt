@@ -1,4 +1,5 @@
 //! Reads a sheet from standard input and prints the listing of its board for each kind of cost, or its one refusal.
+#![tactic(auto)]
 
 use report::report;
 use std::io;

@@ -1,4 +1,5 @@
 //! Flat copies of boards, by example.
+#![tactic(auto)]
 
 #[cfg(test)]
 mod tests;

@@ -1,4 +1,5 @@
 //! Follows a run on the board of a sheet: `follow KIND SHEETFILE`, and then one event a line on standard input, each answered at once.
+#![tactic(auto)]
 
 use anyhow::anyhow;
 use console::follow;

@@ -1,4 +1,5 @@
 //! The game on a board: plays and strategies, rounds and chosen moves, runs, and what is promised of them.
+#![tactic(auto)]
 
 mod parts;
 mod theorems;

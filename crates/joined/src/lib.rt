@@ -1,4 +1,5 @@
 //! A board joined with a task: a board whose positions are the pairs of a position and a state.
+#![tactic(auto)]
 
 mod answers;
 mod pair;

@@ -1,4 +1,5 @@
 //! The kinds of lines of a sheet: what each must say, and what is read of it.
+#![tactic(auto)]
 
 mod fields;
 mod kinds;

@@ -1,4 +1,5 @@
 //! The listing of a solved board as text: the figure and the verdict, then each position's cost and chosen move.
+#![tactic(auto)]
 
 mod lines;
 

@@ -1,4 +1,5 @@
 //! From the bytes of a sheet to the board that is solved: the sheet's board with its tasks joined.
+#![tactic(auto)]
 
 mod joining;
 mod parts;

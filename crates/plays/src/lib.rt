@@ -1,1 +1,2 @@
 //! Paths and plays over a board's table: definitions alone.
+#![tactic(auto)]

@@ -1,4 +1,5 @@
 //! Why a call refuses: one case for each refusal, with the number that the formats give it.
+#![tactic(auto)]
 
 ghost use Rattle.std.specs.Prelude.{◌≡◌};
 ghost use Rattle.refusal.specs.Number.{refusal_number};

@@ -1,4 +1,5 @@
 //! Rounds on a board, from the round in which only resting positions have a cost to the one that changes nothing.
+#![tactic(auto)]
 
 mod fixed;
 mod position;

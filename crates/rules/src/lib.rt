@@ -1,4 +1,5 @@
 //! The rule task: up to five rules that are all to hold of the labels of a play.
+#![tactic(auto)]
 
 mod answers;
 mod digits;

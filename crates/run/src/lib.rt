@@ -1,4 +1,5 @@
 //! Runs: a plan followed on the bench, event by event.
+#![tactic(auto)]
 
 mod beginning;
 mod events;

@@ -1,4 +1,5 @@
 //! Runs by example.
+#![tactic(auto)]
 
 #[cfg(test)]
 mod tests;

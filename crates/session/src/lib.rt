@@ -1,4 +1,5 @@
 //! A whole session on the bench: a board is solved, a run begun, told its events one by one, and ended.
+#![tactic(auto)]
 
 mod desk;
 mod parts;

@@ -1,4 +1,5 @@
 //! Reading a sheet into tables that the caller lends.
+#![tactic(auto)]
 
 mod cursor;
 mod parts;

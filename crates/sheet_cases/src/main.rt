@@ -1,4 +1,5 @@
 //! Prints the answer to each sheet that its arguments name, after the sheet's name.
+#![tactic(auto)]
 
 use account::respond;
 use std::io::{BufWriter, Write};

@@ -1,4 +1,5 @@
 //! The format of a bench sheet: what a sheet says, how it is read, how it is spelled, and the laws that tie the two.
+#![tactic(auto)]
 
 use refusal::Refusal;
 

@@ -1,4 +1,5 @@
 //! Solving a board for a kind of cost: the plan, and the verdict on its start.
+#![tactic(auto)]
 
 mod methods;
 mod plan;

@@ -1,4 +1,5 @@
 //! Solving, by example.
+#![tactic(auto)]
 
 #[cfg(test)]
 mod tests;

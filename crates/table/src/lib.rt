@@ -1,4 +1,5 @@
 //! The board that filled tables hold, answered in constant time.
+#![tactic(auto)]
 
 mod answers;
 mod holder;

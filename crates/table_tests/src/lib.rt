@@ -1,4 +1,5 @@
 //! Boards over tables, by example.
+#![tactic(auto)]
 
 #[cfg(test)]
 mod tests;

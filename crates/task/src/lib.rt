@@ -1,4 +1,6 @@
 //! Tasks: the interface that the joined board asks, and its meaning as an automaton that reads labels.
+#![tactic(auto)]
+
 ghost use Rattle.std.specs.Prelude.{◌≡◌, Bool};
 ghost use Rattle.task.specs.Dfa.{Dfa, DfaInRange, next_at, accepting_at};
 

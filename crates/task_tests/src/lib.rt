@@ -1,4 +1,5 @@
 //! Tests of tasks and of joined boards.
+#![tactic(auto)]
 
 #[cfg(test)]
 mod tests;

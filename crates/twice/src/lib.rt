@@ -1,4 +1,6 @@
 //! A board joined with one task, and the joined board with another: an automaton first, rules over it.
+#![tactic(auto)]
+
 ghost use Rattle.std.specs.Prelude.{◌≡◌, ◌*◌, ◌<◌, length, MatchResult};
 ghost use Rattle.refusal.specs.Number.{refusal_number};
 ghost use Rattle.board.specs.Table.{Table};

@@ -1,4 +1,5 @@
 //! How values are spelled in what is printed.
+#![tactic(auto)]
 
 mod faults;
 mod kinds;

@@ -1,4 +1,5 @@
 //! The lines and words of a sheet: parts of its own bytes, with their line and place.
+#![tactic(auto)]
 
 mod lines;
 mod numbers;

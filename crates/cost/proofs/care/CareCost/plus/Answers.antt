@@ -13,5 +13,5 @@ second e = ap (λ (v : ℕ × (ℕ × Unit {0})). v.1.0) e
 pub returns : goal.returns
 returns c =
     care_same _ _
-    (elim c.match-checked-add.branch [ in-Some w ↦ let e = first w.result-is in omega (arith, w.in-Some.ensures) | in-None w ↦ let e = first w.result-is in omega (arith, w.in-None.ensures) ])
-    (elim c.match-checked-add.branch [ in-Some w ↦ let e = second w.result-is in grind (arith, nat_tests, w.in-Some.ensures, w.saturating-add.ensures) | in-None w ↦ let e = second w.result-is in grind (arith, nat_tests, w.in-None.ensures) ])
+    (elim c.match-checked_add.branch [ in-Some w ↦ let e = first w.result-is in omega (arith, w.in-Some.ensures) | in-None w ↦ let e = first w.result-is in omega (arith, w.in-None.ensures) ])
+    (elim c.match-checked_add.branch [ in-Some w ↦ let e = second w.result-is in grind (arith, nat_tests, w.in-Some.ensures, w.saturating_add.ensures) | in-None w ↦ let e = second w.result-is in grind (arith, nat_tests, w.in-None.ensures) ])
