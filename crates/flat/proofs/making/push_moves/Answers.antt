@@ -16,7 +16,7 @@ pub loop-k-preserved : goal.loop-k-preserved
 loop-k-preserved g c =
     moves_next (g.B.Board.meaning c.args.board.now) c.args.p c.requires.there c.loop-k.k (vec_items c.args.steps.now) (vec_items c.loop-k.steps) (vec_items c.push.new.self) c.step.result c.unwrap.result
     (omega (arith, degree_is (g.B.Board.meaning c.args.board.now) c.args.p c.requires.there c.degree.result c.unwrap-degree.result c.unwrap-degree.ensures c.degree.ensures))
-    c.loop-k.invariant c.unwrap.ensures c.step.ensures c.in-ok-push.ensures.items
+    c.loop-k.invariant c.unwrap.ensures c.step.ensures c.in_ok-push.ensures.items
 
 held : (g : Over) (c : goal.After-unwrap-4 g) → Held (row_at (g.B.Board.meaning c.args.board.now) c.args.p) (length (vec_items c.args.steps.now)) (record { turn = c.unwrap-2.result; label = c.unwrap-3.result; rests = c.unwrap-4.result; first = c.len-first.result; degree = c.unwrap-degree.result })
 held g c = record {

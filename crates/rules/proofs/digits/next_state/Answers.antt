@@ -4,12 +4,12 @@ use Rattle.rules.specs.InRange.{digit_below}
 use Rattle.rules.proofs.Turns.{power_few, power_more, digit_fits, digit_room, rest_less, next_more, next_end}
 use Rattle.rules.proofs.digits.next_state.Goals as goal
 
-small : (c : goal.After-digit-after) → c.digit_after.result < 3
+small : (c : goal.After-digit_after) → c.digit_after.result < 3
 small c =
     subst (λ d. d < 3) (sym c.digit_after.ensures)
     (digit_below (get_or c.args.rules.now c.loop-rule.rule-index (Met 0)) (c.loop-rule.rest % 3) c.args.label (omega arith))
 
-placed : (c : goal.After-digit-after) → c.loop-rule.place ≤ 243
+placed : (c : goal.After-digit_after) → c.loop-rule.place ≤ 243
 placed c = omega (arith, c.loop-rule.invariant.0, power_few c.loop-rule.rule-index (omega arith))
 
 pub overflow-mul-next : goal.overflow-mul-next

@@ -13,7 +13,7 @@ returns-then-not-digit-accepts c =
 
 pub loop-rule-preserved : goal.loop-rule-preserved
 loop-rule-preserved c =
-    sym (ap (λ b. b && state_accepts (drop (c.loop-rule.rule-index + 1) c.args.rules.now) (c.loop-rule.rest / 3)) c.if-not-digit-accepts.false)
+    sym (ap (λ b. b && state_accepts (drop (c.loop-rule.rule-index + 1) c.args.rules.now) (c.loop-rule.rest / 3)) c.if-not-digit_accepts.false)
     ∙ sym (accepts_more c.args.rules.now (Met 0) c.loop-rule.rule-index c.loop-rule.rest c.digit_accepts.result (omega arith) c.digit_accepts.ensures)
     ∙ c.loop-rule.invariant
 

@@ -6,10 +6,10 @@ pub returns-in-err-row : goal.returns-in-err-row
 returns-in-err-row c = rw c.from-residual.ensures (no_step (vec_items c.args.self.now.rows) (vec_items c.args.self.now.steps) c.args.self.now.start c.args.p c.args.k c.in-err-row.ensures)
 
 pub index-requires : goal.index-requires
-index-requires c = omega (arith, moves_inside (vec_items c.args.self.now.rows) (vec_items c.args.self.now.steps) c.args.self.now.start c.args.p c.in-ok-row.row c.args.self.now.inside c.in-ok-row.ensures)
+index-requires c = omega (arith, moves_inside (vec_items c.args.self.now.rows) (vec_items c.args.self.now.steps) c.args.self.now.start c.args.p c.in_ok-row.row c.args.self.now.inside c.in_ok-row.ensures)
 
 pub returns-then-k-row : goal.returns-then-k-row
-returns-then-k-row c = ap Some c.index.ensures ∙ the_step (vec_items c.args.self.now.rows) (vec_items c.args.self.now.steps) c.args.self.now.start c.args.p c.in-ok-row.row c.args.self.now.inside c.in-ok-row.ensures c.args.k c.index.result.now c.if-k-row.true
+returns-then-k-row c = ap Some c.index.ensures ∙ the_step (vec_items c.args.self.now.rows) (vec_items c.args.self.now.steps) c.args.self.now.start c.args.p c.in_ok-row.row c.args.self.now.inside c.in_ok-row.ensures c.args.k c.index.result.now c.if-k-row.true
 
 pub returns-else-k-row : goal.returns-else-k-row
-returns-else-k-row c = past_degree (vec_items c.args.self.now.rows) (vec_items c.args.self.now.steps) c.args.self.now.start c.args.p c.in-ok-row.row c.args.self.now.inside c.in-ok-row.ensures c.args.k c.if-k-row.false
+returns-else-k-row c = past_degree (vec_items c.args.self.now.rows) (vec_items c.args.self.now.steps) c.args.self.now.start c.args.p c.in_ok-row.row c.args.self.now.inside c.in_ok-row.ensures c.args.k c.if-k-row.false

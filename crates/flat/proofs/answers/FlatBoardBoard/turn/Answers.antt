@@ -7,4 +7,4 @@ pub returns-in-err-row : goal.returns-in-err-row
 returns-in-err-row c = rw c.from-residual.ensures (asked (λ (r : Row). r.turn) (vec_items c.args.self.now.rows) (vec_items c.args.self.now.steps) c.args.p None c.in-err-row.ensures)
 
 pub returns : goal.returns
-returns c = asked (λ (r : Row). r.turn) (vec_items c.args.self.now.rows) (vec_items c.args.self.now.steps) c.args.p (Some c.in-ok-row.row) c.in-ok-row.ensures
+returns c = asked (λ (r : Row). r.turn) (vec_items c.args.self.now.rows) (vec_items c.args.self.now.steps) c.args.p (Some c.in_ok-row.row) c.in_ok-row.ensures
