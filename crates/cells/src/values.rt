@@ -10,7 +10,7 @@ use cost::Cost;
 
 /// The value that a cell's cost stands for.
 pub fn read<C: Cost>(cost: Option<(u32, u32)>) -> Option<C>
-    ensures { result ≡ option_map kind.read cost }
+    ensures { result ≡ option_map C.kind.read cost }
 {
     match cost {
         Some(numbers) => Some(C::from_numbers(numbers)),
@@ -20,7 +20,7 @@ pub fn read<C: Cost>(cost: Option<(u32, u32)>) -> Option<C>
 
 /// A value as a cell keeps it.
 pub fn write<C: Cost>(value: Option<C>) -> Option<(u32, u32)>
-    ensures { result ≡ option_map kind.numbers value }
+    ensures { result ≡ option_map C.kind.numbers value }
 {
     match value {
         Some(cost) => Some(cost.numbers()),
@@ -30,7 +30,7 @@ pub fn write<C: Cost>(value: Option<C>) -> Option<(u32, u32)>
 
 /// Whether `x` is not above `y`.
 pub fn not_above<C: Cost>(x: Option<C>, y: Option<C>) -> bool
-    ensures { result ≡ value_leq kind x y }
+    ensures { result ≡ value_leq C.kind x y }
 {
     match (x, y) {
         (_, None) => true,
@@ -41,7 +41,7 @@ pub fn not_above<C: Cost>(x: Option<C>, y: Option<C>) -> bool
 
 /// Whether the one who moves would rather have `x` than `y`: the arm wants the least, the person the greatest.
 pub fn better<C: Cost>(turn: Turn, x: Option<C>, y: Option<C>) -> bool
-    ensures { result ≡ not (turn_leq kind turn y x) }
+    ensures { result ≡ not (turn_leq C.kind turn y x) }
 {
     match turn {
         Turn::Arm => !not_above(y, x),
@@ -51,7 +51,7 @@ pub fn better<C: Cost>(turn: Turn, x: Option<C>, y: Option<C>) -> bool
 
 /// The value through a move whose target has this cost in its cell.
 pub fn through<C: Cost>(step: Step, cost: Option<(u32, u32)>) -> Option<C>
-    ensures { result ≡ value_add kind (charge_of kind step) (option_map kind.read cost) }
+    ensures { result ≡ value_add C.kind (charge_of C.kind step) (option_map C.kind.read cost) }
 {
     match cost {
         Some(numbers) => Some(C::charge(step.bruise, step.energy).plus(C::from_numbers(numbers))),

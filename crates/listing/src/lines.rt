@@ -33,7 +33,7 @@ fn push_position<B: Board>(
     p: u32,
     cell: Cell,
 ) -> fmt::Result
-    ensures { OnOk result (string_bytes out.new ≡ string_bytes out.old ++ position_line kind (B.Board.meaning board.now) p cell) }
+    ensures { OnOk result (string_bytes out.new ≡ string_bytes out.old ++ position_line C.kind (B.meaning board.now) p cell) }
 {
     let turn = turn_mark(turn_at(board, p));
     let cost = CostText {
@@ -53,7 +53,7 @@ pub fn push_listing<B: Board, C: Named>(
     board: &B,
     plan: &Plan<'_, C>,
 ) -> fmt::Result
-    ensures { OnOk result (string_bytes out.new ≡ string_bytes out.old ++ listing C.Named.named (B.Board.meaning board.now) plan.now.count plan.now.start plan.now.rounds plan.now.verdict (plan_cell plan.now.count plan.now.cells.now)) }
+    ensures { OnOk result (string_bytes out.new ≡ string_bytes out.old ++ listing C.Named.named (B.meaning board.now) plan.now.count plan.now.start plan.now.rounds plan.now.verdict (plan_cell plan.now.count plan.now.cells.now)) }
 {
     push_head(out, plan)?;
     let kind = C::cost_kind();

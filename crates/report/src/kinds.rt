@@ -19,9 +19,9 @@ fn push_kind<B: Board, C: Named>(
     one: &mut [Cell],
     two: &mut [Cell],
 ) -> Result<(), AllocError>
-    requires one { length (B.Board.meaning board.now).rows ≤ length one.old }
-    requires two { length (B.Board.meaning board.now).rows ≤ length two.old }
-    ensures { OnOk result (AppendsKind C.Named.named C.Cost.kind (B.Board.meaning board.now) start (string_bytes out.old) (string_bytes out.new)) }
+    requires one { length (B.meaning board.now).rows ≤ length one.old }
+    requires two { length (B.meaning board.now).rows ≤ length two.old }
+    ensures { OnOk result (AppendsKind C.Named.named C.kind (B.meaning board.now) start (string_bytes out.old) (string_bytes out.new)) }
 {
     match solve::<B, C>(board, start.bruise, start.energy, one, two) {
         Ok(plan) => {
@@ -43,7 +43,7 @@ pub(crate) fn push_kinds<B: Board>(
     board: &B,
     start: Start,
 ) -> Result<(), AllocError>
-    ensures { OnOk result (AppendsKinds (B.Board.meaning board.now) start (string_bytes out.old) (string_bytes out.new)) }
+    ensures { OnOk result (AppendsKinds (B.meaning board.now) start (string_bytes out.old) (string_bytes out.new)) }
 {
     let empty = Cell {
         cost: None,

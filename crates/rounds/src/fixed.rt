@@ -26,10 +26,10 @@ fn level(one: &mut [Cell], two: &mut [Cell], back: bool, count: usize)
 
 // Rounds to the fixed point: how many there are, and the final cells in both lists.
 fn settle<B: Board, C: Cost>(board: &B, one: &mut [Cell], two: &mut [Cell]) -> u32
-    requires { (length (meaning board.now).rows ≤ length one.old) × (length (meaning board.now).rows ≤ length two.old) }
-    ensures rounds { NumberOfRounds kind (meaning board.now) result }
-    ensures one { one.new ≡ solved_cells kind (meaning board.now) result one.old }
-    ensures two { two.new ≡ solved_cells kind (meaning board.now) result two.old }
+    requires { (length (B.meaning board.now).rows ≤ length one.old) × (length (B.meaning board.now).rows ≤ length two.old) }
+    ensures rounds { NumberOfRounds C.kind (B.meaning board.now) result }
+    ensures one { one.new ≡ solved_cells C.kind (B.meaning board.now) result one.old }
+    ensures two { two.new ≡ solved_cells C.kind (B.meaning board.now) result two.old }
 {
     first_cells::<B, C>(board, one);
     let mut n: u32 = 0;
@@ -49,10 +49,10 @@ pub fn final_cells<B: Board, C: Cost>(
     one: &mut [Cell],
     two: &mut [Cell],
 ) -> Result<u32, Refusal>
-    ensures rounds { MatchResult result (λ n. NumberOfRounds kind (meaning board.now) n) (λ e. (e ≡ Refusal.ShortCells) × (refusal_number e ≡ 30)) }
-    ensures one { MatchResult result (λ n. one.new ≡ solved_cells kind (meaning board.now) n one.old) (λ _. one.new ≡ one.old) }
-    ensures two { MatchResult result (λ n. two.new ≡ solved_cells kind (meaning board.now) n two.old) (λ _. two.new ≡ two.old) }
-    ensures when { MatchResult result (λ _. Room (meaning board.now) one.old two.old) (λ _. Short (meaning board.now) one.old two.old) }
+    ensures rounds { MatchResult result (λ n. NumberOfRounds C.kind (B.meaning board.now) n) (λ e. (e ≡ Refusal.ShortCells) × (refusal_number e ≡ 30)) }
+    ensures one { MatchResult result (λ n. one.new ≡ solved_cells C.kind (B.meaning board.now) n one.old) (λ _. one.new ≡ one.old) }
+    ensures two { MatchResult result (λ n. two.new ≡ solved_cells C.kind (B.meaning board.now) n two.old) (λ _. two.new ≡ two.old) }
+    ensures when { MatchResult result (λ _. Room (B.meaning board.now) one.old two.old) (λ _. Short (B.meaning board.now) one.old two.old) }
 {
     let count = board.count() as usize;
     if one.len() < count || two.len() < count {

@@ -14,8 +14,8 @@ use cost::Cost;
 
 // The value through move `m` of `p`.
 fn move_value<B: Board, C: Cost>(board: &B, from: &[Cell], p: u32, m: u32) -> Option<C>
-    requires { (p < length (meaning board.now).rows) × ((m < degree (meaning board.now) p) × (length (meaning board.now).rows ≤ length from.now)) }
-    ensures { result ≡ value_through kind (values_of kind (length (meaning board.now).rows) from.now) (move_of (meaning board.now) p m) }
+    requires { (p < length (B.meaning board.now).rows) × ((m < degree (B.meaning board.now) p) × (length (B.meaning board.now).rows ≤ length from.now)) }
+    ensures { result ≡ value_through C.kind (values_of C.kind (length (B.meaning board.now).rows) from.now) (move_of (B.meaning board.now) p m) }
 {
     let step = step_at(board, p, m);
     through::<C>(step, from[step.target as usize].cost)
@@ -23,8 +23,8 @@ fn move_value<B: Board, C: Cost>(board: &B, from: &[Cell], p: u32, m: u32) -> Op
 
 // The best value among the moves of `p`, and the lowest move that has it.
 fn best_move<B: Board, C: Cost>(board: &B, from: &[Cell], p: u32) -> Lead<C>
-    requires { (p < length (meaning board.now).rows) × (length (meaning board.now).rows ≤ length from.now) }
-    ensures { Leads kind (values_of kind (length (meaning board.now).rows) from.now) (row_at (meaning board.now) p) result }
+    requires { (p < length (B.meaning board.now).rows) × (length (B.meaning board.now).rows ≤ length from.now) }
+    ensures { Leads C.kind (values_of C.kind (length (B.meaning board.now).rows) from.now) (row_at (B.meaning board.now) p) result }
 {
     let turn = turn_at(board, p);
     let degree = degree_at(board, p);
@@ -51,8 +51,8 @@ fn best_move<B: Board, C: Cost>(board: &B, from: &[Cell], p: u32) -> Lead<C>
 
 // The cell of `p` after round `n + 1`, from the cells after round `n`.
 pub(crate) fn next_cell<B: Board, C: Cost>(board: &B, from: &[Cell], p: u32, n: u32) -> Cell
-    requires { (p < length (meaning board.now).rows) × ((n < 4294967295) × (Holds kind (meaning board.now) n from.now)) }
-    ensures { result ≡ round_cell kind (meaning board.now) (suc n) p }
+    requires { (p < length (B.meaning board.now).rows) × ((n < 4294967295) × (Holds C.kind (B.meaning board.now) n from.now)) }
+    ensures { result ≡ round_cell C.kind (B.meaning board.now) (suc n) p }
 {
     let old = from[p as usize];
     if rests_at(board, p) {

@@ -10,7 +10,7 @@ use cost::Cost;
 
 // The cell of `p` in round 0: zero at rest, and otherwise none.
 fn first_cell<B: Board, C: Cost>(board: &B, p: u32) -> Cell
-    ensures { result ≡ round_cell kind (meaning board.now) 0 p }
+    ensures { result ≡ round_cell C.kind (B.meaning board.now) 0 p }
 {
     if rests_at(board, p) {
         return Cell {
@@ -28,8 +28,8 @@ fn first_cell<B: Board, C: Cost>(board: &B, p: u32) -> Cell
 
 // Writes the cells of round 0.
 pub(crate) fn first_cells<B: Board, C: Cost>(board: &B, to: &mut [Cell])
-    requires { length (meaning board.now).rows ≤ length to.old }
-    ensures { to.new ≡ written_over (meaning board.now) (round_cell kind (meaning board.now) 0) to.old }
+    requires { length (B.meaning board.now).rows ≤ length to.old }
+    ensures { to.new ≡ written_over (B.meaning board.now) (round_cell C.kind (B.meaning board.now) 0) to.old }
 {
     for p in 0..board.count() {
         to[p as usize] = first_cell::<B, C>(board, p);
@@ -38,9 +38,9 @@ pub(crate) fn first_cells<B: Board, C: Cost>(board: &B, to: &mut [Cell])
 
 // Writes the cells after round `n + 1` from those after round `n`; whether the round changed a value.
 fn next_cells<B: Board, C: Cost>(board: &B, from: &[Cell], to: &mut [Cell], n: u32) -> bool
-    requires { (n < 4294967295) × ((length (meaning board.now).rows ≤ length to.old) × (Holds kind (meaning board.now) n from.now)) }
-    ensures cells { to.new ≡ written_over (meaning board.now) (round_cell kind (meaning board.now) (suc n)) to.old }
-    ensures changed { Tells kind (meaning board.now) n result }
+    requires { (n < 4294967295) × ((length (B.meaning board.now).rows ≤ length to.old) × (Holds C.kind (B.meaning board.now) n from.now)) }
+    ensures cells { to.new ≡ written_over (B.meaning board.now) (round_cell C.kind (B.meaning board.now) (suc n)) to.old }
+    ensures changed { Tells C.kind (B.meaning board.now) n result }
 {
     let mut changed = false;
     for p in 0..board.count() {
@@ -61,10 +61,10 @@ pub(crate) fn pass<B: Board, C: Cost>(
     back: bool,
     n: u32,
 ) -> bool
-    requires { (n < 4294967295) × ((length (meaning board.now).rows ≤ length one.old) × ((length (meaning board.now).rows ≤ length two.old) × (Holds kind (meaning board.now) n (if back then two.old else one.old)))) }
-    ensures one { one.new ≡ (if back then written_over (meaning board.now) (round_cell kind (meaning board.now) (suc n)) one.old else one.old) }
-    ensures two { two.new ≡ (if back then two.old else written_over (meaning board.now) (round_cell kind (meaning board.now) (suc n)) two.old) }
-    ensures changed { Tells kind (meaning board.now) n result }
+    requires { (n < 4294967295) × ((length (B.meaning board.now).rows ≤ length one.old) × ((length (B.meaning board.now).rows ≤ length two.old) × (Holds C.kind (B.meaning board.now) n (if back then two.old else one.old)))) }
+    ensures one { one.new ≡ (if back then written_over (B.meaning board.now) (round_cell C.kind (B.meaning board.now) (suc n)) one.old else one.old) }
+    ensures two { two.new ≡ (if back then two.old else written_over (B.meaning board.now) (round_cell C.kind (B.meaning board.now) (suc n)) two.old) }
+    ensures changed { Tells C.kind (B.meaning board.now) n result }
 {
     if back {
         next_cells::<B, C>(board, two, one, n)

@@ -14,7 +14,7 @@ use solve::{Plan, Verdict};
 
 // The phase of a run that has come to `p`: ended where it rests, otherwise by its turn.
 pub(crate) fn phase_at<B: Board>(board: &B, p: u32) -> Phase
-    ensures { result ≡ phase_at (meaning board.now) p }
+    ensures { result ≡ phase_at (B.meaning board.now) p }
 {
     if rests_at(board, p) {
         return Phase::Ended;
@@ -29,7 +29,7 @@ impl<'a, C: Cost> Run<'a, C> {
     /// Begins a run: it takes the plan, stands at the plan's start, has spent nothing and made no move.
     /// It is refused where the board's count is not the plan's, and then where the verdict is not within. A refusal hands the plan back.
     pub fn begin<B: Board>(plan: Plan<'a, C>, board: &B) -> Result<Run<'a, C>, Unbegun<'a, C>>
-        ensures { MatchResult result (λ u. (begin_refusal (B.Board.meaning board.now) plan.entry.count plan.entry.verdict ≡ None) × (u.plan ≡ plan.entry) × (u.progress ≡ begun (on_numbers C.Cost.kind) (B.Board.meaning board.now) plan.entry.start)) (λ e. (begin_refusal (B.Board.meaning board.now) plan.entry.count plan.entry.verdict ≡ Some e.why) × (e.plan ≡ plan.entry)) }
+        ensures { MatchResult result (λ u. (begin_refusal (B.meaning board.now) plan.entry.count plan.entry.verdict ≡ None) × (u.plan ≡ plan.entry) × (u.progress ≡ begun (on_numbers C.kind) (B.meaning board.now) plan.entry.start)) (λ e. (begin_refusal (B.meaning board.now) plan.entry.count plan.entry.verdict ≡ Some e.why) × (e.plan ≡ plan.entry)) }
     {
         if board.count() != plan.count() {
             return Err(Unbegun {

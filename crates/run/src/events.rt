@@ -16,7 +16,7 @@ use refusal::Refusal;
 
 // The move, where it is there at `p`.
 fn if_there<B: Board>(board: &B, p: u32, m: Option<u32>) -> Option<u32>
-    ensures { result ≡ if_there (meaning board.now) p m }
+    ensures { result ≡ if_there (B.meaning board.now) p m }
 {
     match m {
         Some(m) => {
@@ -33,7 +33,7 @@ fn if_there<B: Board>(board: &B, p: u32, m: Option<u32>) -> Option<u32>
 impl<'a, C: Cost> Run<'a, C> {
     // The chosen move where the run stands, if it is there on the board shown.
     fn chosen<B: Board>(&self, board: &B) -> Option<u32>
-        ensures { result ≡ if_there (B.Board.meaning board.now) self.now.progress.position (plan_move self.now.plan self.now.progress.position) }
+        ensures { result ≡ if_there (B.meaning board.now) self.now.progress.position (plan_move self.now.plan self.now.progress.position) }
     {
         let position = self.progress.position;
         if_there(board, position, self.plan.planned(position).choice)
@@ -42,7 +42,7 @@ impl<'a, C: Cost> Run<'a, C> {
     // Makes a move: goes to its target, adds its charge, counts it, and sets the phase.
     fn make<B: Board>(&mut self, board: &B, m: u32)
         ensures plan { self.new.plan ≡ self.old.plan }
-        ensures after { self.new.progress ≡ moved (on_numbers C.Cost.kind) (B.Board.meaning board.now) self.old.progress m }
+        ensures after { self.new.progress ≡ moved (on_numbers C.kind) (B.meaning board.now) self.old.progress m }
     {
         let step = step_at(board, self.progress.position, m);
         let charge = C::charge(step.bruise, step.energy);
@@ -57,8 +57,8 @@ impl<'a, C: Cost> Run<'a, C> {
     /// Tells the run an event, on the board shown. The event and the phase decide what happens; a refusal changes nothing.
     pub fn tell<B: Board>(&mut self, board: &B, event: Event) -> Result<Answer, Refusal>
         ensures plan { self.new.plan ≡ self.old.plan }
-        ensures after { self.new.progress ≡ after_event (on_numbers C.Cost.kind) (B.Board.meaning board.now) self.old.plan.count (plan_move self.old.plan) self.old.progress event }
-        ensures answer { result ≡ answer_of (outcome (B.Board.meaning board.now) self.old.plan.count (plan_move self.old.plan) self.old.progress event) }
+        ensures after { self.new.progress ≡ after_event (on_numbers C.kind) (B.meaning board.now) self.old.plan.count (plan_move self.old.plan) self.old.progress event }
+        ensures answer { result ≡ answer_of (outcome (B.meaning board.now) self.old.plan.count (plan_move self.old.plan) self.old.progress event) }
     {
         if board.count() != self.plan.count() {
             return Err(Refusal::OtherCount);

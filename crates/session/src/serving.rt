@@ -22,7 +22,7 @@ use solve::{Unsolved, solve};
 // Shows the desk that a run has begun, and tells the run the desk's events one by one, until the desk has none left. False where the desk failed, or did not come to an end.
 fn attend<'a, B: Board, C: Cost, D: Desk>(run: &mut Run<'a, C>, board: &B, desk: &mut D) -> bool
     ensures plan { run.new.plan ≡ run.old.plan }
-    ensures attended { result ≡ true → Attended (on_numbers C.Cost.kind) (B.Board.meaning board.now) run.old.plan.count (plan_move run.old.plan) run.old.progress run.new.progress (D.Desk.told desk.old) (D.Desk.told desk.new) (D.Desk.log desk.old ++ (Begun run.old.progress ∷ [])) (D.Desk.log desk.new) }
+    ensures attended { result ≡ true → Attended (on_numbers C.kind) (B.meaning board.now) run.old.plan.count (plan_move run.old.plan) run.old.progress run.new.progress (D.Desk.told desk.old) (D.Desk.told desk.new) (D.Desk.log desk.old ++ (Begun run.old.progress ∷ [])) (D.Desk.log desk.new) }
     ensures closed { result ≡ true → D.Desk.closed desk.new }
     ensures cut { result ≡ false → CutShort (D.Desk.told desk.old) (D.Desk.told desk.new) (D.Desk.broken desk.new) }
 {
@@ -59,10 +59,10 @@ pub fn serve<'a, B: Board, C: Cost, D: Desk>(
     two: &mut [Cell],
     desk: &mut D,
 ) -> Result<Served<'a, C>, Unsolved<'a>>
-    ensures promise { MatchResult result (λ w. Serves C.Cost.kind (B.Board.meaning board.now) (C.Cost.kind.charge bruise energy) (D.Desk.told desk.old) (D.Desk.told desk.new) (D.Desk.log desk.old) (D.Desk.log desk.new) (D.Desk.closed desk.new) (D.Desk.broken desk.new) w) (λ _. (D.Desk.told desk.new ≡ D.Desk.told desk.old) × (D.Desk.log desk.new ≡ D.Desk.log desk.old)) }
-    ensures cells { MatchResult result (λ w. Solves C.Cost.kind (B.Board.meaning board.now) bruise energy one.old w.plan) (λ e. (e.why ≡ Refusal.ShortCells) × (refusal_number e.why ≡ 30) × (e.cells.now ≡ one.old) × (e.cells.ghost_name ≡ one.entry.ghost_name)) }
-    ensures other { MatchResult result (λ w. two.new ≡ solved_cells C.Cost.kind (B.Board.meaning board.now) w.plan.rounds two.old) (λ _. two.new ≡ two.old) }
-    ensures when { MatchResult result (λ _. Room (B.Board.meaning board.now) one.old two.old) (λ _. Short (B.Board.meaning board.now) one.old two.old) }
+    ensures promise { MatchResult result (λ w. Serves C.kind (B.meaning board.now) (C.kind.charge bruise energy) (D.Desk.told desk.old) (D.Desk.told desk.new) (D.Desk.log desk.old) (D.Desk.log desk.new) (D.Desk.closed desk.new) (D.Desk.broken desk.new) w) (λ _. (D.Desk.told desk.new ≡ D.Desk.told desk.old) × (D.Desk.log desk.new ≡ D.Desk.log desk.old)) }
+    ensures cells { MatchResult result (λ w. Solves C.kind (B.meaning board.now) bruise energy one.old w.plan) (λ e. (e.why ≡ Refusal.ShortCells) × (refusal_number e.why ≡ 30) × (e.cells.now ≡ one.old) × (e.cells.ghost_name ≡ one.entry.ghost_name)) }
+    ensures other { MatchResult result (λ w. two.new ≡ solved_cells C.kind (B.meaning board.now) w.plan.rounds two.old) (λ _. two.new ≡ two.old) }
+    ensures when { MatchResult result (λ _. Room (B.meaning board.now) one.old two.old) (λ _. Short (B.meaning board.now) one.old two.old) }
 {
     let plan = match solve::<B, C>(board, bruise, energy, one, two) {
         Ok(plan) => plan,

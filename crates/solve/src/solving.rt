@@ -17,7 +17,7 @@ use std::marker::PhantomData;
 
 // The verdict on a start of this value.
 fn judge<C: Cost>(value: Option<C>, budget: C) -> Verdict
-    ensures { result ≡ verdict_of kind budget value }
+    ensures { result ≡ verdict_of C.kind budget value }
 {
     match value {
         Some(cost) => {
@@ -41,9 +41,9 @@ pub fn solve<'a, B: Board, C: Cost>(
     one: &'a mut [Cell],
     two: &mut [Cell],
 ) -> Result<Plan<'a, C>, Unsolved<'a>>
-    ensures plan { MatchResult result (λ p. Solves kind (meaning board.now) bruise energy one.old p) (λ e. (e.why ≡ Refusal.ShortCells) × (refusal_number e.why ≡ 30) × (e.cells.now ≡ one.old) × (e.cells.ghost_name ≡ one.entry.ghost_name)) }
-    ensures other { MatchResult result (λ p. two.new ≡ solved_cells kind (meaning board.now) p.rounds two.old) (λ _. two.new ≡ two.old) }
-    ensures when { MatchResult result (λ _. Room (meaning board.now) one.old two.old) (λ _. Short (meaning board.now) one.old two.old) }
+    ensures plan { MatchResult result (λ p. Solves C.kind (B.meaning board.now) bruise energy one.old p) (λ e. (e.why ≡ Refusal.ShortCells) × (refusal_number e.why ≡ 30) × (e.cells.now ≡ one.old) × (e.cells.ghost_name ≡ one.entry.ghost_name)) }
+    ensures other { MatchResult result (λ p. two.new ≡ solved_cells C.kind (B.meaning board.now) p.rounds two.old) (λ _. two.new ≡ two.old) }
+    ensures when { MatchResult result (λ _. Room (B.meaning board.now) one.old two.old) (λ _. Short (B.meaning board.now) one.old two.old) }
 {
     match final_cells::<B, C>(board, one, two) {
         Ok(rounds) => {

@@ -7,4 +7,4 @@ use Rattle.cells.proofs.Asked.{asked}
 use Rattle.cells.proofs.questions.rests_at.Goals as goal
 
 pub returns : goal.returns
-returns g c = c.unwrap-or.ensures ∙ ap (λ (o : Option Bool). unwrap_or o false) c.rests.ensures ∙ asked (λ (r : Row). r.rests) absent_row (g.B.Board.meaning c.args.board.now).rows c.args.p
+returns g c = c.unwrap_or.ensures ∙ ap (λ (o : Option Bool). unwrap_or o false) c.rests.ensures ∙ asked (λ (r : Row). r.rests) absent_row (g.B.Board.meaning c.args.board.now).rows c.args.p

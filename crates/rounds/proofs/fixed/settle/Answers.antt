@@ -7,7 +7,7 @@ use Rattle.cells.proofs.Sweeps.{changed_few}
 use Rattle.rounds.proofs.fixed.settle.Goals as goal
 
 pub loop-n-init : goal.loop-n-init
-loop-n-init g c = (omega arith, over_holds g.C.Cost.kind (g.B.Board.meaning c.args.board.now) 0 c.args.one.now c.first-cells.new.to c.first-cells.ensures, refl, refl, refl, refl, λ m h. absurd (not-suc-le-zero h))
+loop-n-init g c = (omega arith, over_holds g.C.Cost.kind (g.B.Board.meaning c.args.board.now) 0 c.args.one.now c.first_cells.new.to c.first_cells.ensures, refl, refl, refl, refl, λ m h. absurd (not-suc-le-zero h))
 
 pub loop-n-smaller : goal.loop-n-smaller
 loop-n-smaller g c =
@@ -20,7 +20,7 @@ loop-n-preserved g c =
     let n = c.loop-n.n in
     let changed = c.pass.ensures.changed.other c.loop-n-test.true in
     let inv = c.loop-n.invariant in
-    let room-one : length t.rows ≤ length c.loop-n.one = omega (arith, inv.4, c.requires.0, over_length k t (round_cell k t 0) c.args.one.now c.first-cells.new.to c.requires.0 c.first-cells.ensures) in
+    let room-one : length t.rows ≤ length c.loop-n.one = omega (arith, inv.4, c.requires.0, over_length k t (round_cell k t 0) c.args.one.now c.first_cells.new.to c.requires.0 c.first_cells.ensures) in
     let room-two : length t.rows ≤ length c.loop-n.two = omega (arith, inv.5, c.requires.1) in (
       omega (arith, changed_few k g.met.C.Cost.laws t n changed),
       pass_holds k t n c.loop-n.back c.loop-n.one c.loop-n.two c.pass.new.one c.pass.new.two c.pass.ensures.one c.pass.ensures.two,
@@ -40,7 +40,7 @@ returns g c =
     let one = c.pass.new.one in
     let two = c.pass.new.two in
     let fixed = c.pass.ensures.changed.same c.loop-n-test.false in
-    let first = over_drop k t (round_cell k t 0) c.args.one.now c.first-cells.new.to c.first-cells.ensures in
+    let first = over_drop k t (round_cell k t 0) c.args.one.now c.first_cells.new.to c.first_cells.ensures in
     let old-one = c.loop-n.invariant.2 ∙ first in
     let old-two = c.loop-n.invariant.3 in
     record {

@@ -13,13 +13,13 @@ pub returns-then-degree-eq0 : goal.returns-then-degree-eq0
 returns-then-degree-eq0 g c =
     let t = g.B.Board.meaning c.args.board.now in
     let k = g.C.Cost.kind in
-    leads_none k g.met.C.Cost.laws (values_of k (length t.rows) c.args.from.now) (row_at t c.args.p) (omega (arith, c.degree-at-degree.ensures))
+    leads_none k g.met.C.Cost.laws (values_of k (length t.rows) c.args.from.now) (row_at t c.args.p) (omega (arith, c.degree_at-degree.ensures))
 
 pub loop-m-init : goal.loop-m-init
 loop-m-init g c =
     let t = g.B.Board.meaning c.args.board.now in
     let k = g.C.Cost.kind in
-    leads_first (turn_order k g.met.C.Cost.laws (row_at t c.args.p).turn) (λ m. value_through k (values_of k (length t.rows) c.args.from.now) (move_of t c.args.p m)) c.move-value-value.result (sym c.move-value-value.ensures)
+    leads_first (turn_order k g.met.C.Cost.laws (row_at t c.args.p).turn) (λ m. value_through k (values_of k (length t.rows) c.args.from.now) (move_of t c.args.p m)) c.move_value-value.result (sym c.move_value-value.ensures)
 
 pub loop-m-preserved : goal.loop-m-preserved
 loop-m-preserved g c =
@@ -27,11 +27,11 @@ loop-m-preserved g c =
     let k = g.C.Cost.kind in
     let o = turn_order k g.met.C.Cost.laws (row_at t c.args.p).turn in
     let f : ℕ → Option g.row.C.Denot = λ m. value_through k (values_of k (length t.rows) c.args.from.now) (move_of t c.args.p m) in
-    let compared : not (turn_leq k (row_at t c.args.p).turn c.loop-m.value c.move-value-next.result) ≡ c.better.result =
-    subst (λ (x : Turn). not (turn_leq k x c.loop-m.value c.move-value-next.result) ≡ c.better.result) c.turn-at-turn.ensures (sym c.better.ensures) in
+    let compared : not (turn_leq k (row_at t c.args.p).turn c.loop-m.value c.move_value-next.result) ≡ c.better.result =
+    subst (λ (x : Turn). not (turn_leq k x c.loop-m.value c.move_value-next.result) ≡ c.better.result) c.turn_at-turn.ensures (sym c.better.ensures) in
     elim c.if-better.branch [
-      | then-better w ↦ leads_better o f c.loop-m.m c.loop-m.choice c.loop-m.value c.move-value-next.result c.loop-m.invariant (sym c.move-value-next.ensures) (compared ∙ w.if-better.true) _ _ w.value-is w.choice-is
-      | else-better w ↦ leads_kept o f c.loop-m.m c.loop-m.choice c.loop-m.value c.move-value-next.result c.loop-m.invariant (sym c.move-value-next.ensures) (compared ∙ w.if-better.false) _ _ w.value-is w.choice-is
+      | then-better w ↦ leads_better o f c.loop-m.m c.loop-m.choice c.loop-m.value c.move_value-next.result c.loop-m.invariant (sym c.move_value-next.ensures) (compared ∙ w.if-better.true) _ _ w.value-is w.choice-is
+      | else-better w ↦ leads_kept o f c.loop-m.m c.loop-m.choice c.loop-m.value c.move_value-next.result c.loop-m.invariant (sym c.move_value-next.ensures) (compared ∙ w.if-better.false) _ _ w.value-is w.choice-is
     ]
 
 pub returns : goal.returns
@@ -39,6 +39,6 @@ returns g c =
     let t = g.B.Board.meaning c.args.board.now in
     let k = g.C.Cost.kind in
     let w = values_of k (length t.rows) c.args.from.now in
-    let all : c.loop-m.m ≡ degree t c.args.p = omega (arith, c.degree-at-degree.ensures) in
+    let all : c.loop-m.m ≡ degree t c.args.p = omega (arith, c.degree_at-degree.ensures) in
     leads_all k g.met.C.Cost.laws w (row_at t c.args.p) c.loop-m.value c.loop-m.choice
     (subst (λ (n : ℕ). Leading (turn_leq k (row_at t c.args.p).turn) (λ m. value_through k w (move_of t c.args.p m)) n c.loop-m.value c.loop-m.choice) all c.loop-m.invariant)

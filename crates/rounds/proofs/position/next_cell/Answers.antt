@@ -10,24 +10,24 @@ use Rattle.rounds.proofs.position.next_cell.Goals as goal
 pub bounds-from-p : goal.bounds-from-p
 bounds-from-p g c = omega (arith, c.requires.0, long_enough g.C.Cost.kind g.met.C.Cost.laws (g.B.Board.meaning c.args.board.now) c.args.n c.args.from.now c.requires.1.1)
 
-pub returns-then-rests-at : goal.returns-then-rests-at
-returns-then-rests-at g c = rest_cell g.C.Cost.kind g.met.C.Cost.laws (g.B.Board.meaning c.args.board.now) c.args.n c.args.p c.args.from.now c.requires.1.1 c.requires.0 (sym c.if-rests-at.ensures)
+pub returns-then-rests_at : goal.returns-then-rests_at
+returns-then-rests_at g c = rest_cell g.C.Cost.kind g.met.C.Cost.laws (g.B.Board.meaning c.args.board.now) c.args.n c.args.p c.args.from.now c.requires.1.1 c.requires.0 (sym c.if-rests_at.ensures)
 
-pub best-move-lead-requires : goal.best-move-lead-requires
-best-move-lead-requires g c = (c.requires.0, long_enough g.C.Cost.kind g.met.C.Cost.laws (g.B.Board.meaning c.args.board.now) c.args.n c.args.from.now c.requires.1.1)
+pub best_move-lead-requires : goal.best_move-lead-requires
+best_move-lead-requires g c = (c.requires.0, long_enough g.C.Cost.kind g.met.C.Cost.laws (g.B.Board.meaning c.args.board.now) c.args.n c.args.from.now c.requires.1.1)
 
 pub returns-in-Arm : goal.returns-in-Arm
 returns-in-Arm g c =
-    kept_cell g.C.Cost.kind g.met.C.Cost.laws (g.B.Board.meaning c.args.board.now) c.args.n c.args.p c.args.from.now c.requires.1.1 c.requires.0 (sym c.if-rests-at.ensures) c.best-move-lead.result c.best-move-lead.ensures
-    (subst (λ (v : Option g.row.C.Denot). value_leq g.C.Cost.kind v c.best-move-lead.result.value ≡ true) c.read.ensures (sym c.if-not-above.ensures)) (sym c.in-Arm.ensures)
+    kept_cell g.C.Cost.kind g.met.C.Cost.laws (g.B.Board.meaning c.args.board.now) c.args.n c.args.p c.args.from.now c.requires.1.1 c.requires.0 (sym c.if-rests_at.ensures) c.best_move-lead.result c.best_move-lead.ensures
+    (subst (λ (v : Option g.row.C.Denot). value_leq g.C.Cost.kind v c.best_move-lead.result.value ≡ true) c.read.ensures (sym c.if-not_above.ensures)) (sym c.in-Arm.ensures)
 
 pub returns-in-Person : goal.returns-in-Person
 returns-in-Person g c =
-    person_cell g.C.Cost.kind g.met.C.Cost.laws (g.B.Board.meaning c.args.board.now) c.args.n c.args.p c.args.from.now c.requires.1.1 c.requires.0 (sym c.if-rests-at.ensures) c.best-move-lead.result c.best-move-lead.ensures
-    (subst (λ (v : Option g.row.C.Denot). value_leq g.C.Cost.kind v c.best-move-lead.result.value ≡ true) c.read.ensures (sym c.if-not-above.ensures)) (sym c.in-Person.ensures)
+    person_cell g.C.Cost.kind g.met.C.Cost.laws (g.B.Board.meaning c.args.board.now) c.args.n c.args.p c.args.from.now c.requires.1.1 c.requires.0 (sym c.if-rests_at.ensures) c.best_move-lead.result c.best_move-lead.ensures
+    (subst (λ (v : Option g.row.C.Denot). value_leq g.C.Cost.kind v c.best_move-lead.result.value ≡ true) c.read.ensures (sym c.if-not_above.ensures)) (sym c.in-Person.ensures)
 
-pub returns-else-not-above : goal.returns-else-not-above
-returns-else-not-above g c =
-    ap {B = Cell} (λ (x : Option (ℕ × ℕ)). record { cost = x; choice = c.best-move-lead.result.choice; round = c.args.n + 1 }) c.write.ensures
-    ∙ fallen_cell g.C.Cost.kind g.met.C.Cost.laws (g.B.Board.meaning c.args.board.now) c.args.n c.args.p c.args.from.now c.requires.1.1 c.requires.0 (sym c.if-rests-at.ensures) c.best-move-lead.result c.best-move-lead.ensures
-    (subst (λ (v : Option g.row.C.Denot). value_leq g.C.Cost.kind v c.best-move-lead.result.value ≡ false) c.read.ensures (sym c.if-not-above.ensures))
+pub returns-else-not_above : goal.returns-else-not_above
+returns-else-not_above g c =
+    ap {B = Cell} (λ (x : Option (ℕ × ℕ)). record { cost = x; choice = c.best_move-lead.result.choice; round = c.args.n + 1 }) c.write.ensures
+    ∙ fallen_cell g.C.Cost.kind g.met.C.Cost.laws (g.B.Board.meaning c.args.board.now) c.args.n c.args.p c.args.from.now c.requires.1.1 c.requires.0 (sym c.if-rests_at.ensures) c.best_move-lead.result c.best_move-lead.ensures
+    (subst (λ (v : Option g.row.C.Denot). value_leq g.C.Cost.kind v c.best_move-lead.result.value ≡ false) c.read.ensures (sym c.if-not_above.ensures))

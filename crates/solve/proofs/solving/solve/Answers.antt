@@ -9,7 +9,7 @@ pub returns-in-Ok : goal.returns-in-Ok
 returns-in-Ok g c =
     let t = g.B.Board.meaning c.args.board.now in
     let k = g.C.Cost.kind in
-    let cells = c.final-cells.new.one in
+    let cells = c.final_cells.new.one in
     let told = c.in-Ok.ensures in
     record {
       plan = record {

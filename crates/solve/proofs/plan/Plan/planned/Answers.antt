@@ -11,4 +11,4 @@ nth_or (x ∷ xs) (suc i) d = nth_or xs i d
 
 pub returns : goal.returns
 returns g c =
-    c.unwrap-or.ensures ∙ ap (λ (o : Option Cell). unwrap_or o empty_cell) c.cell.ensures ∙ nth_or (take c.args.self.now.count c.args.self.now.cells.now) c.args.p empty_cell
+    c.unwrap_or.ensures ∙ ap (λ (o : Option Cell). unwrap_or o empty_cell) c.cell.ensures ∙ nth_or (take c.args.self.now.count c.args.self.now.cells.now) c.args.p empty_cell
