@@ -33,7 +33,7 @@ fn push_position<B: Board>(
     p: u32,
     cell: Cell,
 ) -> fmt::Result
-    ensures { OnOk result (string_bytes out.new ≡ string_bytes out.old ++ position_line C.kind (B.meaning board.now) p cell) }
+    ensures { OnOk result (string_bytes out.new ≡ string_bytes out.old ++ position_line kind (B.meaning board.now) p cell) }
 {
     let turn = turn_mark(turn_at(board, p));
     let cost = CostText {
