@@ -7,11 +7,11 @@ ghost use Rattle.listing.specs.Listing.{head_line, position_line, listing};
 use board::Board;
 use cells::{Cell, turn_at};
 use solve::Plan;
-use std::fmt;
+use std::alloc::AllocError;
 use wording::{ChoiceText, CostKind, CostText, Named, turn_mark};
 
 // The first line: kind, rounds, verdict and the cost of the start.
-fn push_head<C: Named>(out: &mut String, plan: &Plan<'_, C>) -> fmt::Result
+fn push_head<C: Named>(out: &mut String, plan: &Plan<'_, C>) -> Result<(), AllocError>
     ensures { OnOk result (string_bytes out.new ≡ string_bytes out.old ++ head_line C.Named.named plan.now.rounds plan.now.verdict (plan_cell plan.now.count plan.now.cells.now plan.now.start)) }
 {
     let kind = C::cost_kind();
@@ -32,7 +32,7 @@ fn push_position<B: Board>(
     board: &B,
     p: u32,
     cell: Cell,
-) -> fmt::Result
+) -> Result<(), AllocError>
     ensures { OnOk result (string_bytes out.new ≡ string_bytes out.old ++ position_line kind (B.meaning board.now) p cell) }
 {
     let turn = turn_mark(turn_at(board, p));
@@ -52,7 +52,7 @@ pub fn push_listing<B: Board, C: Named>(
     out: &mut String,
     board: &B,
     plan: &Plan<'_, C>,
-) -> fmt::Result
+) -> Result<(), AllocError>
     ensures { OnOk result (string_bytes out.new ≡ string_bytes out.old ++ listing C.Named.named (B.meaning board.now) plan.now.count plan.now.start plan.now.rounds plan.now.verdict (plan_cell plan.now.count plan.now.cells.now)) }
 {
     push_head(out, plan)?;

@@ -15,8 +15,8 @@ returns-then-b-lt-ZERO c =
 
 pub loop-b-preserved : goal.loop-b-preserved
 loop-b-preserved c =
-    capped_go_on c.args.word.now c.loop-b.b-index c.loop-b.n c.saturating-add-n.result c.loop-b-test.true (omega arith) (omega arith) c.loop-b.invariant
-    (c.saturating-add-n.ensures ∙ ap (λ x. min (x + (get_or c.args.word.now c.loop-b.b-index 0 - 48)) 4294967295) c.saturating-mul.ensures)
+    capped_go_on c.args.word.now c.loop-b.b-index c.loop-b.n c.saturating_add-n.result c.loop-b-test.true (omega arith) (omega arith) c.loop-b.invariant
+    (c.saturating_add-n.ensures ∙ ap (λ x. min (x + (get_or c.args.word.now c.loop-b.b-index 0 - 48)) 4294967295) c.saturating_mul.ensures)
 
 pub returns : goal.returns
 returns c =

@@ -10,7 +10,7 @@ loop-p-init g c = sym (append-nil _)
 pub loop-p-preserved : goal.loop-p-preserved
 loop-p-preserved g c =
     one_more g.C.Named.named (g.B.Board.meaning c.args.board.now) (plan_cell c.args.plan.now.count c.args.plan.now.cells.now) c.loop-p.p _ _ _ _ _
-    c.cost-kind-kind.ensures c.planned.ensures c.loop-p.invariant c.in-ok-push-position.ensures
+    c.cost_kind-kind.ensures c.planned.ensures c.loop-p.invariant c.in_ok-push_position.ensures
 
 pub returns : goal.returns
 returns g c =
@@ -18,4 +18,4 @@ returns g c =
     let plan = c.args.plan.now in
     let cell-of = plan_cell plan.count plan.cells.now in
     all_lines g.C.Named.named (g.B.Board.meaning c.args.board.now) cell-of _ _ (string_bytes c.args.out.now) _ _ (head_line g.C.Named.named plan.rounds plan.verdict (cell-of plan.start))
-    at_end c.in-ok-push-head.ensures c.loop-p.invariant
+    at_end c.in_ok-push_head.ensures c.loop-p.invariant
