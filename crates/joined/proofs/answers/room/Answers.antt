@@ -1,4 +1,4 @@
-use Rattle.std.proofs.Common.{◌≡◌, ◌*◌, ◌≤◌, subst, ap₂}
+use Rattle.std.proofs.Common.{◌*◌, ◌≤◌, subst, ap₂}
 use Rattle.joined.specs.Meant.{join_size}
 use Rattle.joined.proofs.Wide.{whole, whole_join}
 use Rattle.joined.proofs.answers.room.Goals as goal

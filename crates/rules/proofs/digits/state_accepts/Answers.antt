@@ -1,4 +1,4 @@
-use Rattle.std.proofs.Common.{◌≡◌, ◌+◌, ◌/◌, Bool, true, false, ◌&&◌, drop, sym, refl, ap, ◌∙◌, arith}
+use Rattle.std.proofs.Common.{◌+◌, ◌/◌, ◌&&◌, drop, sym, ap, ◌∙◌, arith}
 use Rattle.entries.specs.declared.Rule.TheVariants.{Met}
 use Rattle.std.proofs.lemmas.List.{drop_all}
 use Rattle.rules.specs.Digits.{state_accepts}

@@ -1,4 +1,4 @@
-use Rattle.std.proofs.Common.{◌≡◌, ◌<◌, length, sym, subst, arith}
+use Rattle.std.proofs.Common.{◌<◌, length, sym, subst, arith}
 use Rattle.joined.proofs.Wide.{row_fits, arrival_fits}
 use Rattle.joined.proofs.answers.JoinedBoard.start.Goals as goal
 

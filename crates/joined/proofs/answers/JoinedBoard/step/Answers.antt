@@ -1,4 +1,4 @@
-use Rattle.std.proofs.Common.{◌≡◌, ◌/◌, ◌%◌, ◌<◌, length, Some, None, Option, sym, ap, ◌∙◌, arith}
+use Rattle.std.proofs.Common.{◌/◌, ◌%◌, Some, None, Option, ap, ◌∙◌, arith}
 use Rattle.board.specs.declared.parts.Step.{Step}
 use Rattle.joined.proofs.Wide.{step_lands, state_below, row_fits, arrival_fits, arrival_is, wide_step}
 use Rattle.joined.proofs.answers.JoinedBoard.step.Goals as goal
