@@ -1,10 +1,10 @@
 -- What the two tests of an arrow say of signs.
-use Rattle.std.proofs.Common.{◌≡◌, ℕ, zero, ◌+◌, ◌*◌, ◌/◌, ◌%◌, ◌^◌, min, Bool, true, false, eqb, ◌⊎◌, sym, refl, ap, ◌∙◌, inl, inr, ⊎_elim, arith}
+use Rattle.std.proofs.Common.{◌≡◌, ℕ, ◌+◌, ◌/◌, ◌%◌, ◌^◌, min, true, false, eqb, sym, ap, ◌∙◌, ⊎_elim, arith}
 use native.Mathlib.Nat.{zero-div}
 use lib.Arith.{bin_ind}
 use lib.Bits.{bit_and, and_step, and_zero_r}
 use Rattle.std.proofs.lemmas.Nat.{and_shr, shr-shr}
-use Rattle.std.proofs.lemmas.Bool.{eqb-true, eq-eqb, ne_eqb, cases_eq, both_ways}
+use Rattle.std.proofs.lemmas.Bool.{eqb-true, eq-eqb, cases_eq, both_ways}
 use Rattle.task.specs.Signs.{has_sign}
 
 -- the bit of a sign in the meeting of two labels

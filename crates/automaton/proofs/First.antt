@@ -1,13 +1,12 @@
 -- The first arrow that fits, and the automaton of arrows that stay inside.
-use Rattle.std.proofs.Common.{◌≡◌, ℕ, zero, suc, ◌+◌, ◌<◌, ◌≤◌, min, max, Bool, true, false, cond, ◌&&◌, eqb, ltb, List, [], ◌∷◌, length, get_or, drop, Some, None, Decides, sym, refl, ap, ◌∙◌, subst, ap₂, le_of_suc-le-suc, not-suc-le-zero, arith}
-use mathlib.Core.Path.{fun_ext}
+use Rattle.std.proofs.Common.{◌≡◌, ℕ, zero, suc, ◌+◌, ◌<◌, max, Bool, true, false, cond, ◌&&◌, eqb, ltb, List, [], ◌∷◌, length, get_or, drop, Some, None, Decides, sym, refl, ap, ◌∙◌, subst, ap₂, le_of_suc-le-suc, not-suc-le-zero, arith}
 use lib.Bits.{bit_and}
 use Rattle.std.proofs.lemmas.List.{drop_more}
 use Rattle.std.proofs.lemmas.Bool.{cond-true, cond-false, cond_below, lt-ltb}
 use Rattle.std.proofs.lemmas.Bool.Decides.{Decides-eqb, Decides-and, Decides-like}
 use Rattle.entries.specs.declared.Arrow.{Arrow}
-use Rattle.task.specs.Dfa.{Dfa, next_at}
-use Rattle.automaton.specs.Arrows.{arrow_fits, next_state, automaton_dfa}
+use Rattle.task.specs.Dfa.{next_at}
+use Rattle.automaton.specs.Arrows.{arrow_fits, next_state}
 use Rattle.automaton.specs.Follows.{Fits, Follows, Whole, IsAutomaton, arrow_at, absent_arrow}
 use Rattle.automaton.specs.Means.{size_of, next_within, bounded_dfa}
 use Rattle.automaton.proofs.Bitwise.{covers, covers_back, apart, apart_back}

@@ -1,5 +1,5 @@
 -- The task that an automaton value stands for. A value that the constructor would refuse has a meaning too.
-use Rattle.std.specs.Prelude.{◌≡◌, ℕ, ◌<◌, min, max, Bool, true, false, cond, ◌&&◌, List, [], ◌∷◌, length, nat_lt, slice_index_or}
+use Rattle.std.specs.Prelude.{ℕ, ◌<◌, min, max, Bool, true, cond, ◌&&◌, List, [], ◌∷◌, length, nat_lt, slice_index_or}
 use Rattle.std.proofs.Common.{arith}
 use Rattle.std.proofs.lemmas.Bool.{cond_both, and_parts, ltb-true}
 use Rattle.entries.specs.declared.Arrow.{Arrow}

@@ -2,12 +2,12 @@
 use Rattle.std.proofs.Common.{◌≡◌, ℕ, ◌+◌, ◌*◌, ◌/◌, ◌%◌, ◌<◌, ◌≤◌, Bool, true, false, cond, ◌&&◌, ltb, leb, length, Some, None, Option, sym, refl, ap, ◌∙◌, subst, ap₂, ⊎_elim, arith}
 use Rattle.std.specs.Option.{option_map}
 use Rattle.std.specs.List.{slice_get}
-use Rattle.std.proofs.lemmas.Nat.{mod_below, mul-le}
+use Rattle.std.proofs.lemmas.Nat.{mod_below}
 use Rattle.std.proofs.lemmas.Option.{slice_get-get_or, slice_get_past}
 use Rattle.std.proofs.lemmas.Bool.{leb-true, le-leb, cond-true, cases_lt, lt-ltb}
 use Rattle.board.specs.declared.parts.Step.{Step}
 use Rattle.board.specs.declared.parts.Turn.{Turn}
-use Rattle.board.specs.Table.{Row, Table, row_at, move_at, absent_row, absent_move}
+use Rattle.board.specs.Table.{Table, row_at, move_at, absent_row, absent_move}
 use Rattle.board.specs.Ranges.{InRange}
 use Rattle.board.specs.Questions.{bound, turn_at, label_at, rests_at, degree_at, step_at}
 use Rattle.task.specs.Dfa.{Dfa, DfaInRange, next_at, accepting_at}

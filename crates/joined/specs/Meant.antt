@@ -1,5 +1,5 @@
 -- What a board and a task, joined, mean: a meaning for every board and every task.
-use Rattle.std.specs.Prelude.{◌≡◌, ℕ, ◌*◌, ◌≤◌, Bool, cond, length, Some, None, Option, nat_le}
+use Rattle.std.specs.Prelude.{◌≡◌, ℕ, ◌*◌, ◌≤◌, cond, length, Some, None, Option, nat_le}
 use Rattle.std.proofs.lemmas.Bool.{cond_both, leb-true}
 use Rattle.board.specs.Table.{Table}
 use Rattle.board.specs.Ranges.{InRange}

@@ -4,7 +4,7 @@ use Rattle.std.specs.List.{slice_get}
 use Rattle.std.proofs.lemmas.List.FromFn.{get_or-map-range_with_len}
 use Rattle.std.proofs.lemmas.Option.{slice_get-get_or, slice_get_past}
 use Rattle.board.specs.declared.parts.Step.{Step}
-use Rattle.board.specs.Table.{Row, absent_row}
+use Rattle.board.specs.Table.{absent_row}
 use Rattle.board.specs.Questions.{bound, step_at}
 use Rattle.line.specs.Line.{size_of, line_row, line_table, line_count}
 

@@ -1,7 +1,7 @@
 -- Lists of moves on a board: where they lead, and what is met on the way.
 use Rattle.std.specs.Prelude.{List, [], ◌∷◌, map, ℕ, ◌<◌, length}
 use Rattle.board.specs.declared.parts.Step.{Step}
-use Rattle.board.specs.Table.{Row, Table, row_at, move_at}
+use Rattle.board.specs.Table.{Table, row_at, move_at}
 
 -- move k of position p
 abbrev pub move_of : Table → ℕ → ℕ → Step

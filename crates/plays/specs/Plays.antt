@@ -1,6 +1,6 @@
 -- Plays: paths on which no move is made from rest.
 use Rattle.std.specs.Prelude.{false, List, [], ◌∷◌, ◌≡◌, ℕ, ◌<◌, length}
-use Rattle.board.specs.Table.{Row, Table, row_at}
+use Rattle.board.specs.Table.{Table, row_at}
 use Rattle.plays.specs.Paths.{move_of}
 
 -- move k may be made at p

@@ -1,16 +1,15 @@
 -- What a joined table answers, by what the board below answers.
-use Rattle.std.proofs.Common.{◌≡◌, ℕ, ◌+◌, ◌*◌, ◌/◌, ◌%◌, ◌<◌, ◌≤◌, Bool, ◌&&◌, List, map, length, Some, None, Option, sym, refl, ap, ◌∙◌, ⊎_elim, arith}
+use Rattle.std.proofs.Common.{◌≡◌, ℕ, ◌*◌, ◌/◌, ◌%◌, ◌<◌, ◌≤◌, ◌&&◌, List, map, length, Some, None, Option, sym, refl, ap, ◌∙◌, ⊎_elim, arith}
 use Rattle.std.specs.Option.{option_map}
 use Rattle.std.specs.List.{slice_get}
 use Rattle.std.proofs.lemmas.Nat.{div_below, le-div}
 use Rattle.std.proofs.lemmas.List.{length-map}
 use Rattle.std.proofs.lemmas.Option.{slice_get-get_or, slice_get_past}
 use Rattle.std.proofs.lemmas.Bool.{cases_lt}
-use Rattle.board.specs.declared.parts.Step.{Step}
-use Rattle.board.specs.Table.{Row, Table, row_at, absent_row}
+use Rattle.board.specs.Table.{Row, Table, absent_row}
 use Rattle.board.specs.Questions.{bound, turn_at, label_at, rests_at, degree_at, step_at}
 use Rattle.task.specs.Dfa.{Dfa, DfaInRange}
-use Rattle.product.specs.Product.{joined_move, joined_row, joined}
+use Rattle.product.specs.Product.{joined_move, joined}
 use Rattle.product.proofs.Rows.{joined_count, row_of}
 
 -- a row below with state z

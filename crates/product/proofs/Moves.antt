@@ -1,13 +1,13 @@
 -- Paths and plays of the joined table, from a pair of a position and a state.
-use Rattle.std.proofs.Common.{◌≡◌, ℕ, zero, suc, ◌+◌, ◌*◌, ◌<◌, Bool, false, ◌&&◌, List, [], ◌∷◌, map, length, take, sym, refl, ap, ◌∙◌, subst, ap₂, le_of_suc-le-suc, not-suc-le-zero, arith}
+use Rattle.std.proofs.Common.{◌≡◌, ℕ, zero, suc, ◌+◌, ◌*◌, ◌<◌, Bool, false, ◌&&◌, List, [], ◌∷◌, length, take, sym, refl, ap, ◌∙◌, subst, ap₂, le_of_suc-le-suc, not-suc-le-zero, arith}
 use Rattle.std.proofs.lemmas.List.{length-map}
-use Rattle.board.specs.Table.{Row, Table, row_at, move_at}
+use Rattle.board.specs.Table.{Table, row_at, move_at}
 use Rattle.board.specs.Ranges.{InRange}
 use Rattle.plays.specs.Paths.{move_of, IsPath, endpoint, labels, charges}
-use Rattle.plays.specs.Plays.{Allowed, Play}
-use Rattle.task.specs.Dfa.{Dfa, DfaInRange, state_after, accepts}
+use Rattle.plays.specs.Plays.{Play}
+use Rattle.task.specs.Dfa.{Dfa, DfaInRange, state_after}
 use Rattle.product.specs.Product.{joined_move, joined_row, joined}
-use Rattle.product.specs.Joins.{finished, Unfinished, Tracks, IsJoin}
+use Rattle.product.specs.Joins.{Tracks, IsJoin}
 use Rattle.product.proofs.Rows.{joined_count, row_pair, move_pair}
 
 -- from p, with state z before its label is read: the board rests at the end and the state there accepts

@@ -1,12 +1,11 @@
 -- The rows of the joined table, and its ranges.
-use Rattle.std.proofs.Common.{◌≡◌, ℕ, ◌+◌, ◌*◌, ◌/◌, ◌%◌, ◌<◌, ◌≤◌, Bool, ◌&&◌, List, map, length, get_or, sym, refl, ap, ◌∙◌, subst, ap₂, add-zero, mul_comm, zero-add, arith}
-use Rattle.std.specs.List.{range_with_len}
+use Rattle.std.proofs.Common.{◌≡◌, ℕ, ◌+◌, ◌*◌, ◌/◌, ◌%◌, ◌<◌, ◌≤◌, length, sym, ◌∙◌, subst, ap₂, mul_comm, arith}
 use Rattle.std.proofs.lemmas.Nat.{mul-add-lt, div-mul-add, mod-mul-add, div_below, mod_below}
 use Rattle.std.proofs.lemmas.List.FromFn.{length-map-range_with_len, get_or-map-range_with_len}
 use Rattle.std.proofs.lemmas.List.{get_or-map, length-map}
 use Rattle.board.specs.declared.parts.Step.{Step}
 use Rattle.board.specs.declared.parts.Turn.{Turn}
-use Rattle.board.specs.Table.{Row, Table, row_at, move_at, absent_row, absent_move}
+use Rattle.board.specs.Table.{Table, row_at, move_at, absent_row, absent_move}
 use Rattle.board.specs.Ranges.{MoveInRange, RowInRange, InRange}
 use Rattle.task.specs.Dfa.{Dfa, DfaInRange}
 use Rattle.product.specs.Product.{joined_move, joined_row, joined}

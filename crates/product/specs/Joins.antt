@@ -1,6 +1,6 @@
 -- What moves on a joined board mean on the board below and in the task.
 use Rattle.std.specs.Prelude.{◌≡◌, ℕ, ◌+◌, ◌*◌, ◌<◌, Bool, false, ◌&&◌, List, length, take}
-use Rattle.board.specs.Table.{Row, Table, row_at}
+use Rattle.board.specs.Table.{Table, row_at}
 use Rattle.plays.specs.Paths.{IsPath, endpoint, labels, charges}
 use Rattle.plays.specs.Plays.{Play}
 use Rattle.task.specs.Dfa.{Dfa, state_after, accepts}

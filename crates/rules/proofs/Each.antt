@@ -1,13 +1,13 @@
 -- A rule's digit accepts exactly the lists of labels of which the rule holds.
-use Rattle.std.proofs.Common.{◌≡◌, ℕ, zero, suc, ◌<◌, ◌≤◌, Bool, true, false, cond, eqb, ltb, List, [], ◌∷◌, length, Decides, sym, refl, ap, ◌∙◌, suc-le-suc, zero-le, le_of_suc-le-suc, not-suc-le-zero, arith}
+use Rattle.std.proofs.Common.{◌≡◌, ℕ, zero, suc, ◌≤◌, Bool, true, false, cond, eqb, ltb, List, [], ◌∷◌, Decides, refl, ap, suc-le-suc, zero-le, le_of_suc-le-suc, not-suc-le-zero, arith}
 use Rattle.std.specs.List.{AllByRecursion as All}
-use Rattle.std.proofs.lemmas.Bool.{false≢true, both_ways}
+use Rattle.std.proofs.lemmas.Bool.{both_ways}
 use Rattle.std.proofs.lemmas.Bool.Decides.{Decides-at, Decides-like, Decides-and}
 use Rattle.entries.specs.declared.Rule.{Rule}
 use Rattle.entries.specs.declared.Rule.TheVariants.{Met, Never, Before, After}
-use Rattle.task.specs.Dfa.{Dfa, accepts}
+use Rattle.task.specs.Dfa.{accepts}
 use Rattle.task.specs.Signs.{has_sign, Marked}
-use Rattle.rules.specs.Digits.{digit_after, digit_accepts, rules_dfa}
+use Rattle.rules.specs.Digits.{digit_accepts, rules_dfa}
 use Rattle.rules.specs.Holds.{Holds}
 use Rattle.rules.proofs.Split.{digit_read, accepts_split}
 

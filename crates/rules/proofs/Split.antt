@@ -1,7 +1,7 @@
 -- The rule task taken apart: one digit a rule.
-use Rattle.std.proofs.Common.{◌≡◌, ℕ, zero, suc, ◌+◌, ◌*◌, ◌/◌, ◌%◌, ◌<◌, Bool, ◌&&◌, List, [], ◌∷◌, sym, refl, ap, ◌∙◌, ap₂, arith}
+use Rattle.std.proofs.Common.{◌≡◌, ℕ, ◌+◌, ◌*◌, ◌/◌, ◌%◌, ◌<◌, ◌&&◌, List, [], ◌∷◌, ap, ◌∙◌, ap₂, arith}
 use Rattle.entries.specs.declared.Rule.{Rule}
-use Rattle.task.specs.Dfa.{Dfa, state_after, accepts}
+use Rattle.task.specs.Dfa.{state_after, accepts}
 use Rattle.rules.specs.Digits.{digit_after, digit_accepts, next_state, state_accepts, rules_dfa}
 use Rattle.rules.specs.InRange.{digit_below}
 

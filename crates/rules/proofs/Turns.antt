@@ -1,9 +1,8 @@
 -- The steps of the loops over the digits of a state.
-use Rattle.std.proofs.Common.{◌≡◌, ℕ, zero, suc, ◌+◌, ◌-◌, ◌*◌, ◌/◌, ◌%◌, ◌^◌, ◌<◌, ◌≤◌, Bool, true, false, ◌&&◌, eqb, List, [], ◌∷◌, length, get_or, drop, sym, refl, ap, ◌∙◌, subst, mul_assoc, pow-suc, mul-zero, mul-add, add-one, arith}
+use Rattle.std.proofs.Common.{◌≡◌, ℕ, suc, ◌+◌, ◌-◌, ◌*◌, ◌/◌, ◌%◌, ◌^◌, ◌<◌, ◌≤◌, Bool, false, ◌&&◌, eqb, List, length, get_or, drop, sym, ap, ◌∙◌, mul_assoc, pow-suc, mul-zero, mul-add, add-one, arith}
 use native.Mathlib.Nat.{pow-le-pow_right}
 use Rattle.std.proofs.lemmas.Nat.{div_below, pow_pos, mul-le}
 use Rattle.std.proofs.lemmas.List.{drop_more, drop_all}
-use Rattle.std.proofs.lemmas.Bool.{and_left}
 use Rattle.entries.specs.declared.Rule.{Rule}
 use Rattle.task.specs.Signs.{has_sign}
 use Rattle.rules.specs.Digits.{digit_after, digit_accepts, next_state, state_accepts}

@@ -1,9 +1,9 @@
 -- The states of a rule task stay in range.
-use Rattle.std.specs.Prelude.{◌≡◌, ℕ, zero, suc, ◌+◌, ◌*◌, ◌/◌, ◌%◌, ◌^◌, ◌<◌, Bool, true, false, cond, List, [], ◌∷◌, length}
-use Rattle.std.proofs.Common.{subst, sym, pow-suc, arith}
+use Rattle.std.specs.Prelude.{◌≡◌, ℕ, zero, suc, ◌*◌, ◌/◌, ◌%◌, ◌^◌, ◌<◌, Bool, true, false, cond, List, [], ◌∷◌, length}
+use Rattle.std.proofs.Common.{pow-suc, arith}
 use Rattle.entries.specs.declared.Rule.{Rule}
 use Rattle.entries.specs.declared.Rule.TheVariants.{Met, Never, Before, After}
-use Rattle.task.specs.Dfa.{Dfa, DfaInRange}
+use Rattle.task.specs.Dfa.{DfaInRange}
 use Rattle.task.specs.Signs.{has_sign}
 use Rattle.rules.specs.Digits.{digit_after, next_state, rules_dfa}
 

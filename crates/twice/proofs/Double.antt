@@ -1,10 +1,9 @@
 -- Two joins, one over the other.
-use Rattle.std.proofs.Common.{◌≡◌, ℕ, zero, suc, ◌+◌, ◌*◌, ◌<◌, ◌≤◌, Bool, false, ◌&&◌, List, [], ◌∷◌, length, take, sym, refl, ap, ◌∙◌, subst, ap₂, arith}
+use Rattle.std.proofs.Common.{◌≡◌, ℕ, zero, suc, ◌+◌, ◌*◌, ◌<◌, ◌≤◌, ◌&&◌, List, [], ◌∷◌, length, take, sym, ap, ◌∙◌, subst, ap₂, arith}
 use Rattle.std.proofs.lemmas.Nat.{mul-le}
-use Rattle.board.specs.Table.{Row, Table, row_at}
+use Rattle.board.specs.Table.{Table}
 use Rattle.board.specs.Ranges.{InRange}
-use Rattle.plays.specs.Paths.{move_of, IsPath, endpoint, labels, charges}
-use Rattle.plays.specs.Plays.{Play}
+use Rattle.plays.specs.Paths.{move_of, IsPath}
 use Rattle.task.specs.Dfa.{Dfa, DfaInRange, state_after, accepts}
 use Rattle.product.specs.Joins.{finished, Tracks, IsJoin}
 use Rattle.product.specs.Product.{joined}

@@ -1,6 +1,6 @@
 -- A board joined with one task, and the joined board with another.
 use Rattle.std.specs.Prelude.{◌≡◌, ℕ, ◌+◌, ◌*◌, ◌<◌, ◌≤◌, Bool, false, ◌&&◌, List, length, take}
-use Rattle.board.specs.Table.{Row, Table, row_at}
+use Rattle.board.specs.Table.{Table, row_at}
 use Rattle.plays.specs.Paths.{IsPath, endpoint, labels, charges}
 use Rattle.plays.specs.Plays.{Play}
 use Rattle.task.specs.Dfa.{Dfa, state_after, accepts}

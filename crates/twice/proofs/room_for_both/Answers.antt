@@ -1,6 +1,5 @@
 use Rattle.std.proofs.Common.{◌≡◌, ◌<◌, ◌≤◌, subst, ap₂, MatchResult}
 use Rattle.std.proofs.lemmas.Result.{MatchResult-weaker}
-use Rattle.board.specs.Table.{Table}
 use Rattle.refusal.specs.declared.Refusal.TheVariants.{JoinTooLarge}
 use Rattle.refusal.specs.Number.{refusal_number}
 use Rattle.joined.specs.Meant.{join_size, meant, Room}

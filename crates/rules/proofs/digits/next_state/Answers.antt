@@ -12,15 +12,15 @@ small c =
 placed : (c : goal.After-digit_after) → c.loop-rule.place ≤ 243
 placed c = omega (arith, c.loop-rule.invariant.0, power_few c.loop-rule.rule-index (omega arith))
 
-pub overflow-mul-next : goal.overflow-mul-next
-overflow-mul-next c = omega (arith, digit_fits c.loop-rule.place c.digit_after.result (placed c) (small c))
+pub overflow_mul-next : goal.overflow_mul-next
+overflow_mul-next c = omega (arith, digit_fits c.loop-rule.place c.digit_after.result (placed c) (small c))
 
-pub overflow-add-next : goal.overflow-add-next
-overflow-add-next c =
+pub overflow_add-next : goal.overflow_add-next
+overflow_add-next c =
     omega (arith, placed c, c.loop-rule.invariant.1, digit_fits c.loop-rule.place c.digit_after.result (placed c) (small c))
 
-pub overflow-mul-place : goal.overflow-mul-place
-overflow-mul-place c = omega (arith, placed c)
+pub overflow_mul-place : goal.overflow_mul-place
+overflow_mul-place c = omega (arith, placed c)
 
 pub loop-rule-preserved : goal.loop-rule-preserved
 loop-rule-preserved c = (

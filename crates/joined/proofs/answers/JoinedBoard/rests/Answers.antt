@@ -1,4 +1,4 @@
-use Rattle.std.proofs.Common.{◌≡◌, ◌%◌, Bool, true, false, ◌&&◌, Some, None, sym, refl, ap, ◌∙◌}
+use Rattle.std.proofs.Common.{◌%◌, ◌&&◌, Some, None, sym, ap, ◌∙◌}
 use Rattle.joined.proofs.Wide.{wide_rests, accepting_there}
 use Rattle.joined.proofs.answers.JoinedBoard.rests.Goals as goal
 

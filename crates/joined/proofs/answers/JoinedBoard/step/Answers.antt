@@ -1,24 +1,24 @@
-use Rattle.std.proofs.Common.{◌≡◌, ◌/◌, ◌%◌, ◌<◌, length, Some, None, Option, sym, ap, ◌∙◌, arith}
+use Rattle.std.proofs.Common.{◌/◌, ◌%◌, Some, None, Option, ap, ◌∙◌, arith}
 use Rattle.board.specs.declared.parts.Step.{Step}
 use Rattle.joined.proofs.Wide.{step_lands, state_below, row_fits, arrival_fits, arrival_is, wide_step}
 use Rattle.joined.proofs.answers.JoinedBoard.step.Goals as goal
 
-pub overflow-mul-result : goal.overflow-mul-result
-overflow-mul-result g c =
+pub overflow_mul-result : goal.overflow_mul-result
+overflow_mul-result g c =
     omega (
       arith,
       row_fits (g.B.Board.meaning c.args.self.now.below.now) (g.T.Task.meaning c.args.self.now.task.now) (g.T.Task.ranges c.args.self.now.task.now)
           c.in-Some.width c.in-Some.ensures c.in-Some-step.step.target (step_lands (g.B.Board.meaning c.args.self.now.below.now) (c.args.p / c.in-Some.width) c.args.k c.in-Some-step.step (g.B.Board.ranges c.args.self.now.below.now) c.in-Some-step.ensures),
     )
 
-pub state-after-requires : goal.state-after-requires
-state-after-requires g c = record {
+pub state_after-requires : goal.state_after-requires
+state_after-requires g c = record {
   state = state_below (g.B.Board.meaning c.args.self.now.below.now) (g.T.Task.meaning c.args.self.now.task.now) (g.T.Task.ranges c.args.self.now.task.now) c.in-Some.width c.in-Some.ensures c.args.p;
   there = step_lands (g.B.Board.meaning c.args.self.now.below.now) (c.args.p / c.in-Some.width) c.args.k c.in-Some-step.step (g.B.Board.ranges c.args.self.now.below.now) c.in-Some-step.ensures;
 }
 
-pub overflow-add-result : goal.overflow-add-result
-overflow-add-result g c =
+pub overflow_add-result : goal.overflow_add-result
+overflow_add-result g c =
     omega (
       arith,
       arrival_fits (g.B.Board.meaning c.args.self.now.below.now) (g.T.Task.meaning c.args.self.now.task.now) (g.T.Task.ranges c.args.self.now.task.now)

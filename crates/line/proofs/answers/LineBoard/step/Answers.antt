@@ -1,4 +1,4 @@
-use Rattle.std.proofs.Common.{◌≡◌, ◌+◌, ◌-◌, ◌<◌, ◌≤◌, min, ◌⊎◌, ap, ◌∙◌, subst, inl, inr, ⊎_elim, arith}
+use Rattle.std.proofs.Common.{◌≡◌, ◌+◌, ◌-◌, ◌<◌, ◌≤◌, min, ◌⊎◌, ap, ◌∙◌, subst, arith}
 use Rattle.line.proofs.Rows.{step_there, step_absent}
 use Rattle.line.proofs.answers.LineBoard.step.Goals as goal
 

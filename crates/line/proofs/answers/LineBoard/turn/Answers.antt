@@ -1,6 +1,5 @@
-use Rattle.std.proofs.Common.{◌+◌, eqb, length, Some, ap, ◌∙◌, arith}
+use Rattle.std.proofs.Common.{ap, arith}
 use Rattle.std.specs.Option.{option_map}
-use Rattle.board.specs.Table.{Row}
 use Rattle.line.proofs.Rows.{there, absent}
 use Rattle.line.proofs.answers.LineBoard.turn.Goals as goal
 

@@ -10,6 +10,6 @@ use Rattle.rules.proofs.list.Rules.over.Goals as goal
 kept : (rs : List Rule) → KeepsRules rs (rules_dfa rs)
 kept rs = record { same = refl; places = placed rs; accepts_kept = rules_are rs }
 
-pub returns-then-rules-le-MOST-RULES : goal.returns-then-rules-le-MOST-RULES
-returns-then-rules-le-MOST-RULES c =
+pub returns-then-rules-le-MOST_RULES : goal.returns-then-rules-le-MOST_RULES
+returns-then-rules-le-MOST_RULES c =
     (omega arith, subst (λ xs. KeepsRules c.args.rules.now (rules_dfa xs)) (sym (take_all 5 c.args.rules.now (omega arith))) (kept c.args.rules.now))
