@@ -1,4 +1,4 @@
-use Rattle.std.proofs.Common.{◌≡◌, ℕ, ◌+◌, ◌-◌, ◌<◌, ◌≤◌, length, refl, ap, subst, arith}
+use Rattle.std.proofs.Common.{◌≡◌, ◌+◌, ◌-◌, ◌<◌, length, refl, subst, arith}
 use Rattle.words.specs.Parts.{WordFrom}
 use Rattle.words.proofs.Cutting.{Passed, pass_one, first_passed, none_left}
 use Rattle.words.proofs.lines.word_start.Goals as goal

@@ -1,5 +1,5 @@
-use Rattle.std.proofs.Common.{◌<◌, inl, inr, arith}
-use Rattle.words.proofs.Digits.{digits_begin, digits_go_on, digits_small, no_number_length, no_number_zero, no_number_byte, number_read}
+use Rattle.std.proofs.Common.{inl, inr, arith}
+use Rattle.words.proofs.Digits.{digits_begin, digits_go_on, digits_small, no_number_byte, number_read}
 use Rattle.words.proofs.numbers.number.Goals as goal
 use Rattle.words.proofs.numbers.number.Goals.{then-b-lt48-via-then-b-lt48, then-b-lt48-via-else-b-lt48+then-b-gt57, else-word-eq48-via-then-word-eq48+else-word-gt1, else-word-eq48-via-else-word-eq48}
 
