@@ -5,6 +5,6 @@ use Rattle.lines.specs.Words.{word_at}
 use Rattle.lines.proofs.Marks.{unmarked}
 use Rattle.lines.proofs.fields.turn.Goals as goal
 
-pub returns-in-default : goal.returns-in-default
-returns-in-default c =
-    unmarked turn_of c.args.place (word_at c.args.line.now c.args.place) (mark_word Arm) (mark_word Person) (c.in-default.ensures Arm) (c.in-default.ensures Person)
+pub returns-in_default : goal.returns-in_default
+returns-in_default c =
+    unmarked turn_of c.args.place (word_at c.args.line.now c.args.place) (mark_word Arm) (mark_word Person) (c.in_default.ensures Arm) (c.in_default.ensures Person)

@@ -5,26 +5,26 @@ use Rattle.lines.specs.RuleNames.{name_place}
 use Rattle.lines.proofs.Counted.{rule_count_refused}
 use Rattle.lines.proofs.rules.rule.Goals as goal
 
-pub returns-in-err-word-count : goal.returns-in-err-word-count
-returns-in-err-word-count c =
-    let p = err_from_is_err_and c.from-residual.result c.from-residual.ensures.1 in
+pub returns-in_err-word_count-in-Met : goal.returns-in_err-word_count-in-Met
+returns-in_err-word_count-in-Met c =
+    let p = err_from_is_err_and c.from_residual.result c.from_residual.ensures.1 in
     let n : suc (length (rule_fields (name_place c.args.name))) ≡ 2 = ap (λ m. suc (length (rule_fields (name_place m)))) c.in-Met.is in
-    rw (p.1, p.2) (rule_count_refused c.args.name c.args.line.now.bytes.now 2 _ n c.in-err-word-count.ensures)
+    rw (p.1, p.2) (rule_count_refused c.args.name c.args.line.now.bytes.now 2 _ n c.in_err-word_count-in-Met.ensures)
 
-pub returns-in-err-word-count-2 : goal.returns-in-err-word-count-2
-returns-in-err-word-count-2 c =
-    let p = err_from_is_err_and c.from-residual-in-err-word-count-2.result c.from-residual-in-err-word-count-2.ensures.1 in
+pub returns-in_err-word_count-in-Never : goal.returns-in_err-word_count-in-Never
+returns-in_err-word_count-in-Never c =
+    let p = err_from_is_err_and c.from_residual-in_err-word_count-in-Never.result c.from_residual-in_err-word_count-in-Never.ensures.1 in
     let n : suc (length (rule_fields (name_place c.args.name))) ≡ 2 = ap (λ m. suc (length (rule_fields (name_place m)))) c.in-Never.is in
-    rw (p.1, p.2) (rule_count_refused c.args.name c.args.line.now.bytes.now 2 _ n c.in-err-word-count-2.ensures)
+    rw (p.1, p.2) (rule_count_refused c.args.name c.args.line.now.bytes.now 2 _ n c.in_err-word_count-in-Never.ensures)
 
-pub returns-in-err-word-count-3 : goal.returns-in-err-word-count-3
-returns-in-err-word-count-3 c =
-    let p = err_from_is_err_and c.from-residual-in-err-word-count-3.result c.from-residual-in-err-word-count-3.ensures.1 in
+pub returns-in_err-word_count-in-Before : goal.returns-in_err-word_count-in-Before
+returns-in_err-word_count-in-Before c =
+    let p = err_from_is_err_and c.from_residual-in_err-word_count-in-Before.result c.from_residual-in_err-word_count-in-Before.ensures.1 in
     let n : suc (length (rule_fields (name_place c.args.name))) ≡ 3 = ap (λ m. suc (length (rule_fields (name_place m)))) c.in-Before.is in
-    rw (p.1, p.2) (rule_count_refused c.args.name c.args.line.now.bytes.now 3 _ n c.in-err-word-count-3.ensures)
+    rw (p.1, p.2) (rule_count_refused c.args.name c.args.line.now.bytes.now 3 _ n c.in_err-word_count-in-Before.ensures)
 
-pub returns-in-err-word-count-4 : goal.returns-in-err-word-count-4
-returns-in-err-word-count-4 c =
-    let p = err_from_is_err_and c.from-residual-in-err-word-count-4.result c.from-residual-in-err-word-count-4.ensures.1 in
+pub returns-in_err-word_count-in-After : goal.returns-in_err-word_count-in-After
+returns-in_err-word_count-in-After c =
+    let p = err_from_is_err_and c.from_residual-in_err-word_count-in-After.result c.from_residual-in_err-word_count-in-After.ensures.1 in
     let n : suc (length (rule_fields (name_place c.args.name))) ≡ 3 = ap (λ m. suc (length (rule_fields (name_place m)))) c.in-After.is in
-    rw (p.1, p.2) (rule_count_refused c.args.name c.args.line.now.bytes.now 3 _ n c.in-err-word-count-4.ensures)
+    rw (p.1, p.2) (rule_count_refused c.args.name c.args.line.now.bytes.now 3 _ n c.in_err-word_count-in-After.ensures)

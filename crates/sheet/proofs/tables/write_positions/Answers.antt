@@ -13,12 +13,12 @@ loop-p-preserved c =
     let first = c.loop-p.invariant.2 in
     let ms = c.args.moves.now in
     let p = c.loop-p.p in
-    let end : c.run-end-end.result ≡ count_before p ms + count_from p ms = run_to p ms c.loop-p.first c.run-end-end.result 0 first c.run-end-end.ensures.end c.requires.1.1.1 in
-    let degree : c.run-end-end.result - c.loop-p.first ≡ count_from p ms = omega (arith, end, first) in (
+    let end : c.run_end-end.result ≡ count_before p ms + count_from p ms = run_to p ms c.loop-p.first c.run_end-end.result 0 first c.run_end-end.ensures.end c.requires.1.1.1 in
+    let degree : c.run_end-end.result - c.loop-p.first ≡ count_from p ms = omega (arith, end, first) in (
       length-set c.loop-p.table p _ ∙ c.loop-p.invariant.0,
-      c.run-end-end.ensures.within,
+      c.run_end-end.ensures.within,
       end ∙ sym (before_next p ms),
-      ap (λ t. set t p (record { position = get_or c.args.positions.now p absent_position; first = c.loop-p.first; degree = c.run-end-end.result - c.loop-p.first })) c.loop-p.invariant.3 ∙ write_next ms c.args.positions.now c.args.table.now p _ absent_position c.loop-p-test.true (omega arith) (same_entry ms p _ _ _ first degree),
+      ap (λ t. set t p (record { position = get_or c.args.positions.now p absent_position; first = c.loop-p.first; degree = c.run_end-end.result - c.loop-p.first })) c.loop-p.invariant.3 ∙ write_next ms c.args.positions.now c.args.table.now p _ absent_position c.loop-p-test.true (omega arith) (same_entry ms p _ _ _ first degree),
     )
 
 pub returns : goal.returns

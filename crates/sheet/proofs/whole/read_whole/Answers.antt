@@ -5,12 +5,12 @@ use Rattle.sheet.proofs.whole.read_whole.Goals as goal
 
 pub returns-then-reader-sheet : goal.returns-then-reader-sheet
 returns-then-reader-sheet c =
-    let got = c.in-ok-outline.ensures in
+    let got = c.in_ok-outline.ensures in
     let end = c.read_sections.new.reader in
     something_left (room_of c.args.room) c.args.sheet.now (omega arith) _ end.line end.at _ (ap (λ s. drop end.at s.now) got.1) got.0 c.if-reader-sheet.true
 
 pub returns : goal.returns
 returns c =
-    let got = c.in-ok-outline.ensures in
+    let got = c.in_ok-outline.ensures in
     let end = c.read_sections.new.reader in
     (nothing_left (room_of c.args.room) c.args.sheet.now (omega arith) _ end.line end.at _ (ap (λ s. drop end.at s.now) got.1) got.0 c.if-reader-sheet.false, got.2)

@@ -1,5 +1,5 @@
-use Rattle.std.proofs.Common.{◌<◌, inl, inr, arith}
-use Rattle.words.proofs.Digits.{digits_begin, digits_go_on, digits_small, no_number_length, no_number_zero, no_number_byte, number_read}
+use Rattle.std.proofs.Common.{inl, inr, arith}
+use Rattle.words.proofs.Digits.{digits_begin, digits_go_on, digits_small, no_number_byte, number_read}
 use Rattle.words.proofs.numbers.number.Goals as goal
 use Rattle.words.proofs.numbers.number.Goals.{then-b-lt48-via-then-b-lt48, then-b-lt48-via-else-b-lt48+then-b-gt57, else-word-eq48-via-then-word-eq48+else-word-gt1, else-word-eq48-via-else-word-eq48}
 
@@ -13,11 +13,11 @@ returns-then-b-lt48 c =
       | then-b-lt48-via-else-b-lt48+then-b-gt57 w ↦ no_number_byte c.args.word.now c.loop-b.b-index c.loop-b-test.true (inr w.if-b-gt57.true)
     ]
 
-pub overflow-mul-n : goal.overflow-mul-n
-overflow-mul-n c = omega (arith, digits_small c.args.word.now c.loop-b.b-index c.loop-b.n (omega arith) c.loop-b.invariant)
+pub overflow_mul-n : goal.overflow_mul-n
+overflow_mul-n c = omega (arith, digits_small c.args.word.now c.loop-b.b-index c.loop-b.n (omega arith) c.loop-b.invariant)
 
-pub overflow-add-n : goal.overflow-add-n
-overflow-add-n c = omega (arith, digits_small c.args.word.now c.loop-b.b-index c.loop-b.n (omega arith) c.loop-b.invariant)
+pub overflow_add-n : goal.overflow_add-n
+overflow_add-n c = omega (arith, digits_small c.args.word.now c.loop-b.b-index c.loop-b.n (omega arith) c.loop-b.invariant)
 
 pub loop-b-preserved : goal.loop-b-preserved
 loop-b-preserved c = digits_go_on c.args.word.now c.loop-b.b-index c.loop-b.n c.loop-b-test.true (omega arith) (omega arith) c.loop-b.invariant
