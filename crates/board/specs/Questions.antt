@@ -4,7 +4,7 @@ use Rattle.std.specs.Option.{option_map}
 use Rattle.std.specs.List.{slice_get}
 use Rattle.board.specs.declared.parts.Step.{Step}
 use Rattle.board.specs.declared.parts.Turn.{Turn}
-use Rattle.board.specs.Table.{Row, Table}
+use Rattle.board.specs.Table.{Table}
 
 -- the answer to a question about a value, where there is one
 abbrev pub bound : {X Y : Type 0} → Option X → (X → Option Y) → Option Y

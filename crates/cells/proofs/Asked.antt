@@ -4,7 +4,6 @@ use Rattle.std.specs.Option.{option_map, unwrap_or}
 use Rattle.std.specs.List.{slice_get}
 use Rattle.board.specs.Questions.{bound}
 use Rattle.board.specs.Table.{Row, move_at, absent_row, absent_move}
-use Rattle.board.specs.declared.parts.Step.{Step}
 
 pub asked : {X Y : Type 0} (f : X → Y) (d : X) (xs : List X) (i : ℕ) → unwrap_or (option_map f (slice_get xs i)) (f d) ≡ f (get_or xs i d)
 asked f d [] i = refl

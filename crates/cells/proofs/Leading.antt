@@ -1,5 +1,5 @@
 -- The best of the values so far, with the lowest place that has it, is the best of the row and its lowest move.
-use Rattle.std.proofs.Common.{◌≡◌, ℕ, zero, suc, ◌+◌, ◌<◌, ◌≤◌, Bool, true, false, not, List, [], ◌∷◌, map, length, get_or, Some, None, Option, sym, refl, ap, ◌∙◌, subst, ⊎_elim, le_of_suc-le-suc, not-suc-le-zero, arith}
+use Rattle.std.proofs.Common.{◌≡◌, ℕ, suc, ◌+◌, ◌<◌, ◌≤◌, Bool, true, false, not, List, [], ◌∷◌, map, length, get_or, Some, None, Option, sym, refl, ap, ◌∙◌, subst, ⊎_elim, not-suc-le-zero, arith}
 use Rattle.std.proofs.lemmas.List.{nil_from_length}
 use Rattle.std.proofs.lemmas.Bool.{both_ways, cases_lt, cases_order, cond_both}
 use Rattle.board.specs.Table.{Row, move_at, absent_move}
@@ -13,10 +13,8 @@ use Rattle.orders.specs.Lowest.{lowest}
 use Rattle.orders.proofs.Extremes.{Place, above, above_left, least_at, greatest_at, greatest_in}
 use Rattle.orders.proofs.Lowest.{Found, lowest_found}
 use Rattle.game.specs.Rounds.{value_through, best}
-use Rattle.game.specs.Values.{value_leq}
 use Rattle.game.proofs.Values.{values, none_high}
 use Rattle.cells.specs.Leads.{turn_leq, Leads}
-use Rattle.cells.specs.declared.parts.Lead.{Lead}
 
 was_false : (b : Bool) → not b ≡ true → b ≡ false
 was_false true e = sym e

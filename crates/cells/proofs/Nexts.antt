@@ -7,7 +7,7 @@ use Rattle.board.specs.declared.parts.Turn.TheVariants.{Arm, Person}
 use Rattle.cost.specs.Kind.{Kind}
 use Rattle.cost.specs.Laws.{CostLaws}
 use Rattle.orders.specs.Lowest.{lowest}
-use Rattle.game.specs.Choices.{first_round, arm_choice, person_choice, chosen}
+use Rattle.game.specs.Choices.{first_round, person_choice, chosen}
 use Rattle.game.specs.Rounds.{value_through, round, FixedPoint}
 use Rattle.game.specs.Strategies.{ToMove}
 use Rattle.game.specs.Values.{value_leq}

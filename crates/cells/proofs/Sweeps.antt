@@ -1,9 +1,9 @@
 -- Writing the cells of a round one after another, and what this shows of the round.
-use Rattle.std.proofs.Common.{◌≡◌, ℕ, zero, suc, ◌+◌, ◌<◌, ◌≤◌, Bool, true, false, List, [], ◌∷◌, ◌++◌, map, length, get_or, take, drop, set, sym, refl, ap, ◌∙◌, subst, ⊎_elim, not-suc-le-zero, arith}
+use Rattle.std.proofs.Common.{◌≡◌, ℕ, suc, ◌+◌, ◌<◌, ◌≤◌, Bool, true, false, List, [], ◌∷◌, ◌++◌, map, length, get_or, take, drop, set, sym, ap, ◌∙◌, subst, ⊎_elim, not-suc-le-zero, arith}
 use mathlib.Core.Path.{fun_ext}
 use Rattle.std.proofs.lemmas.List.FromFn.{length-map-range_with_len, map-range_with_len_more}
 use Rattle.std.proofs.lemmas.List.{append_assoc, drop_more, set_at, take_at, drop_at}
-use Rattle.std.proofs.lemmas.Bool.{both_ways, cases_Bool, cases_lt, false≢true, true≢false}
+use Rattle.std.proofs.lemmas.Bool.{cases_Bool, cases_lt, false≢true, true≢false}
 use Rattle.std.specs.List.{range_with_len}
 use Rattle.board.specs.Table.{Table}
 use Rattle.cost.specs.Kind.{Kind}
@@ -19,7 +19,7 @@ use Rattle.game.proofs.Firsts.{first_below}
 use Rattle.game.proofs.Rounds.{outside}
 use Rattle.game.proofs.Steps.{stays_first, falls_first}
 use Rattle.game.proofs.Values.{values}
-use Rattle.cells.specs.Cells.{final_cell, written_over}
+use Rattle.cells.specs.Cells.{final_cell}
 use Rattle.cells.specs.Written.{round_cell, Tells}
 use Rattle.cells.proofs.Nexts.{cell_is_final}
 

@@ -1,5 +1,5 @@
 -- A text that grows line by line.
-use Rattle.std.proofs.Common.{◌≡◌, ℕ, ◌+◌, List, [], ◌++◌, sym, ap, ◌∙◌, append_assoc, add-one}
+use Rattle.std.proofs.Common.{◌≡◌, ℕ, ◌+◌, List, ◌++◌, sym, ap, ◌∙◌, append_assoc, add-one}
 use Rattle.board.specs.Table.{Table}
 use Rattle.cells.specs.declared.parts.Cell.{Cell}
 use Rattle.wording.specs.declared.kinds.CostKind.{CostKind}

@@ -1,5 +1,5 @@
 -- Counting numbers, and lists without repeats.
-use Rattle.std.specs.Prelude.{◌≡◌, ℕ, zero, suc, Bool, cond, List, [], ◌∷◌, ◌≢◌}
+use Rattle.std.specs.Prelude.{ℕ, zero, suc, Bool, cond, List, [], ◌∷◌, ◌≢◌}
 use Rattle.std.specs.List.{AllByRecursion as All}
 
 -- how many numbers below n pass a test

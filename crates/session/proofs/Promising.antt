@@ -28,7 +28,7 @@ use Rattle.solve.specs.declared.plan.Plan.{Plan}
 use Rattle.solve.specs.declared.verdict.Verdict.TheVariants.{Within, Over}
 use Rattle.session.specs.Attends.{Attended, CutShort}
 use Rattle.session.specs.Notes.{answers, run_log}
-use Rattle.session.specs.Serves.{StartWithin, Unbegun, Logged, EndsAs, Serves}
+use Rattle.session.specs.Serves.{StartWithin, Unbegun, EndsAs, Serves}
 use Rattle.session.specs.declared.parts.Ending.{Ending}
 use Rattle.session.specs.declared.parts.Ending.TheVariants.{Ended, NotBegun, Cut}
 use Rattle.session.specs.declared.parts.Shown.{Shown}

@@ -1,5 +1,5 @@
 -- What a session promises.
-use Rattle.std.specs.Prelude.{◌≡◌, ℕ, true, false, ◌⊎◌, List, ◌++◌, length, Some, None}
+use Rattle.std.specs.Prelude.{◌≡◌, true, false, ◌⊎◌, List, ◌++◌, length, Some, None}
 use Rattle.board.specs.Table.{Table}
 use Rattle.cells.specs.Said.{solved_by}
 use Rattle.cost.specs.Kind.{Kind}

@@ -1,8 +1,6 @@
 use Rattle.std.proofs.Common.{Bool, false, Option, ap, ◌∙◌}
 use Rattle.std.specs.Option.{unwrap_or}
 use Rattle.board.specs.Table.{Row, absent_row}
-use Rattle.board.specs.declared.parts.Turn.{Turn}
-use Rattle.board.specs.declared.parts.Turn.TheVariants.{Arm}
 use Rattle.cells.proofs.Asked.{asked}
 use Rattle.cells.proofs.questions.rests_at.Goals as goal
 

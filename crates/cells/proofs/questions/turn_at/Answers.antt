@@ -1,4 +1,4 @@
-use Rattle.std.proofs.Common.{Bool, false, Option, ap, ◌∙◌}
+use Rattle.std.proofs.Common.{Option, ap, ◌∙◌}
 use Rattle.std.specs.Option.{unwrap_or}
 use Rattle.board.specs.Table.{Row, absent_row}
 use Rattle.board.specs.declared.parts.Turn.{Turn}

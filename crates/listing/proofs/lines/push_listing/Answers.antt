@@ -1,4 +1,4 @@
-use Rattle.std.proofs.Common.{◌≡◌, ℕ, string_bytes, sym, append-nil, arith}
+use Rattle.std.proofs.Common.{◌≡◌, string_bytes, sym, append-nil, arith}
 use Rattle.cells.specs.Said.{plan_cell}
 use Rattle.listing.specs.Listing.{head_line}
 use Rattle.listing.proofs.Grows.{one_more, all_lines}

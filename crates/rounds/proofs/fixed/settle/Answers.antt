@@ -1,4 +1,4 @@
-use Rattle.std.proofs.Common.{◌≡◌, ℕ, suc, ◌+◌, ◌<◌, ◌≤◌, cond, ◌++◌, length, take, drop, sym, refl, ap, ◌∙◌, subst, ⊎_elim, not-suc-le-zero, arith}
+use Rattle.std.proofs.Common.{◌≡◌, ℕ, ◌<◌, ◌≤◌, cond, ◌++◌, length, take, drop, refl, ◌∙◌, subst, ⊎_elim, not-suc-le-zero, arith}
 use Rattle.std.proofs.lemmas.Bool.{cases_lt}
 use Rattle.game.specs.Rounds.{FixedPoint}
 use Rattle.cells.specs.Written.{round_cell}

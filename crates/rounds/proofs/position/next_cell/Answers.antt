@@ -1,7 +1,5 @@
-use Rattle.std.proofs.Common.{◌≡◌, ℕ, ◌+◌, ◌<◌, true, false, length, get_or, Option, sym, ap, ◌∙◌, subst, arith}
-use Rattle.std.specs.Option.{option_map}
+use Rattle.std.proofs.Common.{◌≡◌, ℕ, ◌+◌, true, false, Option, sym, ap, ◌∙◌, subst, arith}
 use Rattle.game.specs.Values.{value_leq}
-use Rattle.cells.specs.Cells.{empty_cell}
 use Rattle.cells.specs.declared.parts.Cell.{Cell}
 use Rattle.cells.proofs.Nexts.{rest_cell, kept_cell, person_cell, fallen_cell}
 use Rattle.cells.proofs.Reading.{long_enough}

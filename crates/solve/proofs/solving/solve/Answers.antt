@@ -1,4 +1,4 @@
-use Rattle.std.proofs.Common.{◌≡◌, ℕ, get_or, Option, ap, ◌∙◌, ap₂, rules}
+use Rattle.std.proofs.Common.{ℕ, get_or, Option, ap, ◌∙◌, ap₂}
 use Rattle.std.specs.Option.{option_map}
 use Rattle.cells.specs.Cells.{empty_cell}
 use Rattle.cells.proofs.Reading.{solved_value}
