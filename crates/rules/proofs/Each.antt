@@ -1,6 +1,6 @@
 -- A rule's digit accepts exactly the lists of labels of which the rule holds.
 use Rattle.std.proofs.Common.{◌≡◌, ℕ, zero, suc, ◌≤◌, Bool, true, false, cond, eqb, ltb, List, [], ◌∷◌, Decides, refl, ap, suc-le-suc, zero-le, le_of_suc-le-suc, not-suc-le-zero, arith}
-use Rattle.std.specs.List.{AllByRecursion as All}
+use Rattle.std.specs.List.{AllByRecursion}
 use Rattle.std.proofs.lemmas.Bool.{both_ways}
 use Rattle.std.proofs.lemmas.Bool.Decides.{Decides-at, Decides-like, Decides-and}
 use Rattle.entries.specs.declared.Rule.{Rule}
@@ -169,7 +169,7 @@ rule_is (Before p q) ls = before_is p q ls
 rule_is (After p q) ls = (after_is p q ls).0
 
 -- the task accepts a list of labels exactly when every rule holds of it, of however many rules
-pub rules_are : (rs : List Rule) (ls : List ℕ) → Decides (accepts (rules_dfa rs) ls) (All (λ r. Holds r ls) rs)
+pub rules_are : (rs : List Rule) (ls : List ℕ) → Decides (accepts (rules_dfa rs) ls) (AllByRecursion (λ r. Holds r ls) rs)
 rules_are [] ls = passes true refl tt
 rules_are (r ∷ rs) ls =
     Decides-at (accepts (rules_dfa (r ∷ rs)) ls) _ (accepts_split r rs ls)

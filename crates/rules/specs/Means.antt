@@ -1,6 +1,6 @@
 -- The task that a list of rules stands for.
 use Rattle.std.specs.Prelude.{◌≡◌, ℕ, ◌/◌, ◌%◌, ◌^◌, ◌<◌, List, length, take, Decides, slice_index_or}
-use Rattle.std.specs.List.{AllByRecursion as All}
+use Rattle.std.specs.List.{AllByRecursion}
 use Rattle.entries.specs.declared.Rule.{Rule}
 use Rattle.entries.specs.declared.Rule.TheVariants.{Met}
 use Rattle.task.specs.Dfa.{Dfa, DfaInRange, accepts}
@@ -22,4 +22,4 @@ pub record KeepsRules (rules : List Rule) (d : Dfa) : Type 0 where
   -- digit i is rule i's
   pub places : (z label i : ℕ) → i < length rules → d.next z label / 3 ^ i % 3 ≡ digit_after (slice_index_or rules i (Met 0)) (z / 3 ^ i % 3) label
   -- a list of labels is accepted exactly when every rule holds of it
-  pub accepts_kept : (list : List ℕ) → Decides (accepts d list) (All (λ r. Holds r list) rules)
+  pub accepts_kept : (list : List ℕ) → Decides (accepts d list) (AllByRecursion (λ r. Holds r list) rules)
