@@ -1,8 +1,7 @@
-use Rattle.std.proofs.Common.{◌≡◌, ℕ, ◌-◌, List, length, take, sym, refl, ap, ◌∙◌, arith}
+use Rattle.std.proofs.Common.{◌≡◌, ℕ, ◌-◌, List, take, sym, ap, ◌∙◌, arith}
 use Rattle.std.proofs.lemmas.List.{length-take-le}
 use Rattle.std.proofs.lemmas.Result.{err_from_is_err_and}
 use Rattle.sheet_format.specs.Read.{most_arrows, read_sections}
-use Rattle.sheet_format.specs.Reading.{Left}
 use Rattle.sheet.specs.Sections.{room_of}
 use Rattle.sheet.specs.Takes.{left_of}
 use Rattle.sheet.proofs.Steps.{from_moves, from_states, from_arrows, from_rules, from_header, from_start, after_positions, after_moves, after_states, after_arrows, after_rules, after_header, after_start, no_moves, no_states, no_arrows, no_rules, no_header, no_start}
