@@ -1,6 +1,6 @@
 -- A rule line with a wrong count of words.
-use Rattle.std.proofs.Common.{◌≡◌, ℕ, suc, ◌<◌, Bool, true, false, cond, eqb, List, [], ◌∷◌, length, Ok, Err, Result, sym, refl, ap, ◌∙◌, ⊎_elim, arith}
-use Rattle.std.proofs.lemmas.Bool.{cases_Bool, eqb-false, ne_eqb, cond-false}
+use Rattle.std.proofs.Common.{◌≡◌, ℕ, suc, ◌<◌, Bool, true, false, cond, eqb, List, [], ◌∷◌, length, Ok, Err, Result, sym, refl, ap, ◌∙◌, arith}
+use Rattle.std.proofs.lemmas.Bool.{eqb-false, ne_eqb, cond-false}
 use Rattle.refusal.specs.declared.Refusal.TheVariants.{WordCount}
 use Rattle.sheet_format.specs.declared.LineFault.{LineFault}
 use Rattle.sheet_format.specs.Cuts.{words, in_front}

@@ -1,5 +1,5 @@
 -- A value read, and what is made of it.
-use Rattle.std.proofs.Common.{◌≡◌, ℕ, Ok, Err, Result, sym, refl, ap, subst, arith}
+use Rattle.std.proofs.Common.{◌≡◌, ℕ, Ok, Err, Result, ap, arith}
 use Rattle.sheet_format.specs.Fields.{on_ok}
 
 module _ {A B C E : Type 0} (f : A → B) (g : B → Result C E) where

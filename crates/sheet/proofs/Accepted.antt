@@ -1,5 +1,5 @@
 -- What is known once a sheet is accepted, and once it is refused.
-use Rattle.std.proofs.Common.{◌≡◌, ℕ, ◌-◌, ◌≤◌, Bool, List, ◌++◌, length, take, drop, Ok, Err, Result, sym, refl, ap, ◌∙◌, ap₂, arith}
+use Rattle.std.proofs.Common.{◌≡◌, ℕ, ◌-◌, ◌≤◌, Bool, List, ◌++◌, length, take, drop, Ok, Err, Result, sym, ap, ◌∙◌, ap₂, arith}
 use Rattle.std.proofs.lemmas.List.{length-take-le}
 use Rattle.entries.specs.declared.Arrow.{Arrow}
 use Rattle.entries.specs.declared.Move.{Move}
@@ -10,8 +10,7 @@ use Rattle.sheet_format.specs.declared.Fault.{Fault}
 use Rattle.sheet_format.specs.Boards.{entries_from, sheet_entries}
 use Rattle.sheet_format.specs.Read.{read_sheet}
 use Rattle.sheet_format.specs.Sheets.{Sheet, Room}
-use Rattle.sheet_format.specs.Spelling.{spelled}
-use Rattle.sheet_format.specs.WellFormed.{WellFormed, NeverFalling}
+use Rattle.sheet_format.specs.WellFormed.{WellFormed}
 use Rattle.sheet_format.proofs.Laws.{reads_back, only_spellings}
 use Rattle.sheet_format.proofs.Results.{err_ok}
 use Rattle.sheet.specs.declared.parts.Outline.{Outline}

@@ -1,12 +1,11 @@
 -- Where the last line of a sheet ends.
-use Rattle.std.proofs.Common.{◌≡◌, ℕ, ◌+◌, ◌<◌, ◌≤◌, cond, leb, List, [], ◌∷◌, length, get_or, drop, Ok, Err, Result, sym, refl, ap, ◌∙◌, arith}
+use Rattle.std.proofs.Common.{◌≡◌, ℕ, ◌<◌, ◌≤◌, leb, List, length, drop, Ok, Err, ap, ◌∙◌}
 use Rattle.std.proofs.lemmas.List.{drop_all, drop_more}
 use Rattle.std.proofs.lemmas.Bool.{cond-true, le-leb}
 use Rattle.refusal.specs.declared.Refusal.TheVariants.{PastTheEnd, TooLong}
-use Rattle.sheet_format.specs.declared.Fault.{Fault}
 use Rattle.sheet_format.specs.Fields.{on_ok}
 use Rattle.sheet_format.specs.Read.{at_end, read_sections, read_whole, read_sheet}
-use Rattle.sheet_format.specs.Reading.{Left, left, fault}
+use Rattle.sheet_format.specs.Reading.{left, fault}
 use Rattle.sheet_format.specs.Sheets.{Sheet, Room}
 
 module _ (z : Room) (bs : List ℕ) (short : length bs ≤ 65536) (s : Sheet) (line at : ℕ) (rest : List ℕ) (same : rest ≡ drop at bs) (taken : read_sections z (left 1 bs) ≡ Ok (s, left line rest)) where

@@ -1,5 +1,5 @@
 -- Lines read one by one, counting up.
-use Rattle.std.proofs.Common.{◌≡◌, ℕ, zero, suc, ◌+◌, ◌<◌, ◌≤◌, cond, leb, List, [], ◌∷◌, ◌++◌, reverse, length, get_or, take, set, Some, None, Ok, Err, Option, Result, sym, refl, ap, ◌∙◌, subst, append_assoc, append-nil, add-one, arith}
+use Rattle.std.proofs.Common.{◌≡◌, ℕ, zero, suc, ◌+◌, ◌<◌, ◌≤◌, cond, leb, List, [], ◌∷◌, ◌++◌, reverse, length, get_or, take, set, Some, None, Ok, Err, Option, Result, sym, refl, ap, ◌∙◌, append_assoc, append-nil, add-one, arith}
 use mathlib.Core.List.{reverse-append}
 use Rattle.std.proofs.lemmas.List.{take_more_set}
 use Rattle.refusal.specs.declared.Refusal.TheVariants.{WrongSection, ShortTable}
@@ -7,7 +7,7 @@ use Rattle.sheet_format.specs.declared.Fault.{Fault}
 use Rattle.sheet_format.specs.declared.LineFault.{LineFault}
 use Rattle.sheet_format.specs.Cuts.{first_line, words}
 use Rattle.sheet_format.specs.Fields.{Field, on_ok, one_of, between, line_fault, read_fields, RowFits}
-use Rattle.sheet_format.specs.Reading.{Left, left, LineReading, Reading, fault, line_due, line_read, next_line, counted_lines, header, section}
+use Rattle.sheet_format.specs.Reading.{Left, left, LineReading, fault, line_due, line_read, next_line, counted_lines, header, section}
 use Rattle.sheet_format.proofs.Results.{ok_along, err_ok, on_ok_parts, cond_ok}
 use Rattle.sheet_format.proofs.Fields.{fields_back}
 

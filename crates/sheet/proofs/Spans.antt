@@ -1,17 +1,16 @@
 -- Where the moves of each position stand in a list of moves that never falls.
-use Rattle.std.proofs.Common.{◌≡◌, ℕ, suc, ◌+◌, ◌-◌, ◌<◌, ◌≤◌, Bool, true, false, cond, eqb, ltb, List, [], ◌∷◌, ◌++◌, length, get_or, take, drop, set, filter, sym, refl, ap, ◌∙◌, ap₂, ⊎_elim, append_assoc, arith, length-append}
+use Rattle.std.proofs.Common.{◌≡◌, ℕ, suc, ◌+◌, ◌<◌, ◌≤◌, Bool, eqb, List, [], ◌∷◌, ◌++◌, length, get_or, take, drop, set, sym, refl, ap, ◌∙◌, ap₂, ⊎_elim, append_assoc, arith}
 use Rattle.std.specs.List.{prefix_len}
-use Rattle.std.proofs.lemmas.List.{take_more, drop_more, drop_all, take_all, set_at, length-take-le}
+use Rattle.std.proofs.lemmas.List.{take_more, drop_more, take_all, set_at, length-take-le}
 use Rattle.std.proofs.lemmas.List.Sums.{prefix_len-drop_yes, prefix_len-drop_no, prefix_len-drop_all}
 use Rattle.std.proofs.lemmas.Bool.{cases_order, eq-eqb, ne_eqb, lt-ltb, le-ltb}
-use Rattle.board.specs.declared.parts.Turn.TheVariants.{Arm}
 use Rattle.entries.specs.declared.Move.{Move}
 use Rattle.entries.specs.declared.Position.{Position}
 use Rattle.entries.specs.declared.PositionEntry.{PositionEntry}
 use Rattle.sheet_format.specs.Boards.{count_before, entries_from}
-use Rattle.sheet_format.specs.Lines.{count_from, absent_position}
+use Rattle.sheet_format.specs.Lines.{count_from}
 use Rattle.sheet_format.specs.WellFormed.{NeverFalling}
-use Rattle.sheet_format.proofs.Sorted.{moves_from, none_from, none_before}
+use Rattle.sheet_format.proofs.Sorted.{none_from, none_before}
 
 abbrev no_move : Move
 no_move = record { from = 0; to = 0; bruise = 0; energy = 0 }

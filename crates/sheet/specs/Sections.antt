@@ -1,5 +1,5 @@
 -- A sheet taken into lists.
-use Rattle.std.specs.Prelude.{◌≡◌, ℕ, ◌≤◌, Bool, List, length, take, Ok, Err, Result}
+use Rattle.std.specs.Prelude.{◌≡◌, ◌≤◌, Bool, List, length, take, Ok, Err, Result}
 use Rattle.entries.specs.declared.Arrow.{Arrow}
 use Rattle.entries.specs.declared.Move.{Move}
 use Rattle.entries.specs.declared.Position.{Position}

@@ -1,5 +1,5 @@
 -- What a reader takes off a sheet.
-use Rattle.std.specs.Prelude.{◌≡◌, ℕ, suc, ◌≤◌, List, [], length, take, drop, Some, None, Ok, Err, Result}
+use Rattle.std.specs.Prelude.{◌≡◌, ℕ, suc, ◌≤◌, List, length, take, drop, Some, None, Ok, Err, Result}
 use Rattle.refusal.specs.declared.Refusal.TheVariants.{EndsEarly}
 use Rattle.sheet_format.specs.declared.Fault.{Fault}
 use Rattle.sheet_format.specs.Cuts.{first_line}

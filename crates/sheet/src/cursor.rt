@@ -73,7 +73,7 @@ fn read_entry<'a, E, K: LineKind<E>>(
     kind: &K,
     before: &[E],
 ) -> Result<E, Fault>
-    ensures { Takes (next_line (reading kind.now (reverse before.now))) reader.old reader.new result }
+    ensures { Takes (next_line (K.reading kind.now (reverse before.now))) reader.old reader.new result }
 {
     let line = reader.next_line()?;
     at_line(line.number, kind.entry(&line, before))
@@ -90,7 +90,7 @@ pub(crate) fn read_section<'a, E: Copy, K: LineKind<E>>(
     table: &mut [E],
 ) -> Result<usize, Fault>
     requires { high ≤ length table.old }
-    ensures { TakesInto (section name.now low high room (reading kind.now)) high reader.old reader.new table.new result }
+    ensures { TakesInto (section name.now low high room (K.reading kind.now)) high reader.old reader.new table.new result }
 {
     let count = read_header(reader, name, low, high, room)? as usize;
     for i in 0..count {

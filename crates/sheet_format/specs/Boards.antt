@@ -1,5 +1,5 @@
 -- The board that a sheet spells, and the tables that hold it.
-use Rattle.std.specs.Prelude.{◌≡◌, ℕ, suc, Bool, List, [], ◌∷◌, map, length, take, drop, filter, nat_eq, nat_lt}
+use Rattle.std.specs.Prelude.{◌≡◌, ℕ, suc, List, [], ◌∷◌, map, length, take, drop, filter, nat_eq, nat_lt}
 use Rattle.board.specs.declared.parts.Step.{Step}
 use Rattle.board.specs.Ranges.{InRange}
 use Rattle.board.specs.Table.{Row, Table}

@@ -8,7 +8,6 @@ use Rattle.entries.specs.declared.Position.{Position}
 use Rattle.entries.specs.declared.Rule.{Rule}
 use Rattle.entries.specs.declared.Rule.TheVariants.{Met, Never, Before, After}
 use Rattle.entries.specs.declared.Start.{Start}
-use Rattle.refusal.specs.declared.Refusal.{Refusal}
 use Rattle.refusal.specs.declared.Refusal.TheVariants.{UnknownMark, FromFalls, TooManyMoves, PersonPays}
 use Rattle.sheet_format.specs.declared.LineFault.{LineFault}
 use Rattle.sheet_format.specs.Fields.{Field, one_of, between, below, line_fault, on_ok, place_among, read_fields}

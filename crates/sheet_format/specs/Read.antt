@@ -4,7 +4,7 @@ use Rattle.refusal.specs.declared.Refusal.TheVariants.{PastTheEnd, TooLong}
 use Rattle.sheet_format.specs.declared.Fault.{Fault}
 use Rattle.sheet_format.specs.Fields.{on_ok}
 use Rattle.sheet_format.specs.Lines.{position_line, move_line, state_line, arrow_line, rule_line, start_line}
-use Rattle.sheet_format.specs.Reading.{Left, left, Reading, fault, done, ◌>>=◌, next_line, header, section}
+use Rattle.sheet_format.specs.Reading.{left, Reading, fault, done, ◌>>=◌, next_line, header, section}
 use Rattle.sheet_format.specs.Sheets.{Sheet, Room}
 
 -- arrows need states

@@ -1,7 +1,5 @@
-use Rattle.std.proofs.Common.{◌≡◌, ℕ, ◌+◌, cond, eqb, length, get_or, take, filter, sym, refl, ap, ◌∙◌, arith, rules}
-use Rattle.std.proofs.lemmas.List.Filters.{length-filter_more}
+use Rattle.std.proofs.Common.{eqb, length, filter, sym, ap, ◌∙◌, arith}
 use Rattle.std.proofs.lemmas.List.{take_all}
-use Rattle.std.proofs.lemmas.Bool.{eq-eqb, ne_eqb}
 use Rattle.lines.proofs.Before.{count_reverse, count_more_yes, count_more_no}
 use Rattle.lines.proofs.moves.count_starts.Goals as goal
 use Rattle.lines.proofs.moves.count_starts.Goals.{then-m-from, else-m-from}

@@ -8,7 +8,7 @@ use Rattle.sheet_format.proofs.Laws.{format_laws}
 use Rattle.sheet.specs.Filled.{room_in, outlined, filled}
 use Rattle.sheet.proofs.Accepted.{front, front_filled, entries_filled, spells_none, Fits, well_formed, fits, accepted, spells_one}
 use Rattle.sheet.proofs.reading.read.Goals as goal
-use Rattle.sheet.proofs.reading.read.Goals.{In-ok-outline}
+use Rattle.sheet.proofs.reading.read.Goals.{In_ok-outline}
 
 pub returns-in_err-outline : goal.returns-in_err-outline
 returns-in_err-outline c =
@@ -26,12 +26,12 @@ returns-in_err-outline c =
       boards = board_laws;
     })
 
-known : (c : In-ok-outline) → Fits (room_in c.args.positions.now c.args.moves.now c.args.states.now c.args.arrows.now c.args.rules.now) c.in_ok-outline.outline
+known : (c : In_ok-outline) → Fits (room_in c.args.positions.now c.args.moves.now c.args.states.now c.args.arrows.now c.args.rules.now) c.in_ok-outline.outline
 known c = let got = c.in_ok-outline.ensures in fits _ c.args.sheet.now _ _ _ _ _ _ got.0 got.1
 
 pub write_positions-requires : goal.write_positions-requires
 write_positions-requires c =
-    let k = known (goal.at.write_positions-requires c).In-ok-outline in
+    let k = known (goal.at.write_positions-requires c).In_ok-outline in
     let got = c.in_ok-outline.ensures in
     let n = ap length (front c.in_ok-outline.outline.positions c.read_whole.new.positions) ∙ length-take-le c.in_ok-outline.outline.positions c.read_whole.new.positions got.1.positions in
     let m = ap length (front c.in_ok-outline.outline.moves c.read_whole.new.moves) ∙ length-take-le c.in_ok-outline.outline.moves c.read_whole.new.moves got.1.moves in (
@@ -47,22 +47,22 @@ write_positions-requires c =
 
 pub copy_front-requires : goal.copy_front-requires
 copy_front-requires c =
-    let k = known (goal.at.copy_front-requires c).In-ok-outline in
+    let k = known (goal.at.copy_front-requires c).In_ok-outline in
     (k.moves, c.in_ok-outline.ensures.1.moves)
 
 pub copy_front-requires-2 : goal.copy_front-requires-2
 copy_front-requires-2 c =
-    let k = known (goal.at.copy_front-requires-2 c).In-ok-outline in
+    let k = known (goal.at.copy_front-requires-2 c).In_ok-outline in
     (k.states, c.in_ok-outline.ensures.1.states)
 
 pub copy_front-requires-3 : goal.copy_front-requires-3
 copy_front-requires-3 c =
-    let k = known (goal.at.copy_front-requires-3 c).In-ok-outline in
+    let k = known (goal.at.copy_front-requires-3 c).In_ok-outline in
     (k.arrows, c.in_ok-outline.ensures.1.arrows)
 
 pub copy_front-requires-4 : goal.copy_front-requires-4
 copy_front-requires-4 c =
-    let k = known (goal.at.copy_front-requires-4 c).In-ok-outline in
+    let k = known (goal.at.copy_front-requires-4 c).In_ok-outline in
     (k.rules, c.in_ok-outline.ensures.1.rules)
 
 pub returns : goal.returns

@@ -1,5 +1,5 @@
-use Rattle.std.proofs.Common.{◌≡◌, drop, ap, arith}
-use Rattle.sheet.specs.Sections.{room_of, sheet_of}
+use Rattle.std.proofs.Common.{drop, ap, arith}
+use Rattle.sheet.specs.Sections.{room_of}
 use Rattle.sheet.proofs.Ending.{nothing_left, something_left}
 use Rattle.sheet.proofs.whole.read_whole.Goals as goal
 

@@ -1,4 +1,4 @@
-use Rattle.std.proofs.Common.{◌≡◌, reverse, length, sym, ◌∙◌}
+use Rattle.std.proofs.Common.{reverse, length, sym, ◌∙◌}
 use Rattle.std.proofs.lemmas.Result.{err_from_is_err_and}
 use Rattle.sheet_format.specs.Cuts.{words}
 use Rattle.sheet_format.specs.Fields.{read_fields}
