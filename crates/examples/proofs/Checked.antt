@@ -2,7 +2,7 @@
 use Rattle.std.proofs.Common.{◌≡◌, ℕ, List, [], ◌∷◌, length, None, Ok, Err, Result, sym, subst}
 use Rattle.std.proofs.ByRecursion.{All-weaker}
 use Rattle.std.proofs.lemmas.Bool.Decides.{Decides-at, Decides-like}
-use Rattle.std.specs.List.{AllByRecursion as All}
+use Rattle.std.specs.List.{AllByRecursion}
 use Rattle.board.specs.Table.{Table}
 use Rattle.cost.specs.CareLaws.{care_same}
 use Rattle.cost.specs.EnergyLaws.{energy_laws}
@@ -58,5 +58,5 @@ comes_holds (runs sheet events log) h =
     (load_sheet sheet) h
 comes_holds (numbers refusal number) h = h
 
-pub all_hold : (es : List Example) → All Comes es → All Holds es
+pub all_hold : (es : List Example) → AllByRecursion Comes es → AllByRecursion Holds es
 all_hold es h = All-weaker Comes Holds comes_holds es h

@@ -1,7 +1,7 @@
 //! Worked examples, as theorems about the definitions that the contracts cite.
 #![tactic(auto)]
 
-ghost use Rattle.std.specs.List.{AllByRecursion as All};
+ghost use Rattle.std.specs.List.{AllByRecursion};
 ghost use Rattle.examples.specs.Claims.{Holds};
 ghost use Rattle.examples.specs.PeakAndEnergy.{PeakIsNotEnergy};
 ghost use Rattle.examples.specs.Worked.{examples};
@@ -13,5 +13,5 @@ pub fn peak_is_not_energy()
 
 /// Every worked example comes out as it is listed: reports on sheets, rules on labels, sums of care, and a run.
 pub fn worked_examples()
-    ensures { All Holds examples }
+    ensures { AllByRecursion Holds examples }
 {}

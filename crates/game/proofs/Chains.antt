@@ -2,7 +2,7 @@
 use Rattle.std.proofs.Common.{◌≡◌, ℕ, zero, suc, ◌<◌, ◌≤◌, true, false, not, List, [], ◌∷◌, length, Some, None, sym, refl, subst, ⊎_elim}
 use Rattle.std.proofs.ByRecursion.{All-weaker}
 use Rattle.std.proofs.lemmas.Bool.{both_ways, cases_lt, and_from, and_parts, not_from_false}
-use Rattle.std.specs.List.{AllByRecursion as All}
+use Rattle.std.specs.List.{AllByRecursion}
 use Rattle.board.specs.Table.{Table, row_at}
 use Rattle.cost.specs.Kind.{Kind}
 use Rattle.cost.specs.Laws.{CostLaws}
@@ -23,8 +23,8 @@ pub record Chain {C : Type 0} (k : Kind C) (t : Table) (n p : ℕ) : Type 0 wher
   pub those : List ℕ
   pub many : length those ≡ suc n
   pub distinct : Distinct those
-  pub low : All (λ q. value_leq k (round k t (suc n) q) (round k t (suc n) p) ≡ true) those
-  pub all_open : All (λ q. (q < length t.rows) × (is_open t (round k t (suc n)) q ≡ true)) those
+  pub low : AllByRecursion (λ q. value_leq k (round k t (suc n) q) (round k t (suc n) p) ≡ true) those
+  pub all_open : AllByRecursion (λ q. (q < length t.rows) × (is_open t (round k t (suc n)) q ≡ true)) those
 
 module _ {C : Type 0} (k : Kind C) (laws : CostLaws k) (t : Table) where
   falls_awake : (n p : ℕ) → Falls k t n p → (row_at t p).rests ≡ false

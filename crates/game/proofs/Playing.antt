@@ -2,7 +2,7 @@
 use Rattle.std.proofs.Common.{◌≡◌, ℕ, suc, ◌<◌, ◌≤◌, Bool, true, false, cond, List, [], ◌∷◌, length, Some, None, Option, sym, refl, ap, ◌∙◌, subst, ⊎_elim}
 use Rattle.std.proofs.ByRecursion.{All-weaker}
 use Rattle.std.proofs.lemmas.Bool.{cases_lt, and_from, not_from_false, false≢true}
-use Rattle.std.specs.List.{AllByRecursion as All}
+use Rattle.std.specs.List.{AllByRecursion}
 use Rattle.board.specs.Table.{Table, row_at}
 use Rattle.board.specs.declared.parts.Turn.{Turn}
 use Rattle.board.specs.declared.parts.Turn.TheVariants.{Arm, Person}
@@ -85,7 +85,7 @@ module _ {C : Type 0} (k : Kind C) (laws : CostLaws k) (t : Table) (n : ℕ) whe
           (r.0, r.1, laws.order.transitive _ _ _ r.2 (subst (λ y. k.leq y (k.add c w) ≡ true) (sym (laws.associative c ch x)) (laws.keeps_order c (k.add ch x) w le)))
 
   -- every stop of a play from under q is under q
-  stops_under : (b : Bool) (q p : ℕ) (ms : List ℕ) → Under k t n p q → GoodPlay k t n p ms → All (λ z. Under k t n z q) (stops b t p ms)
+  stops_under : (b : Bool) (q p : ℕ) (ms : List ℕ) → Under k t n p q → GoodPlay k t n p ms → AllByRecursion (λ z. Under k t n z q) (stops b t p ms)
   stops_under true q p [] u g = (u, tt)
   stops_under false q p [] u g = tt
   stops_under true q p (m ∷ ms) u g = (u, stops_under true q (move_of t p m).target ms (under_under k laws t n _ p q (good_under k laws t n p m g.1) u) g.2)
@@ -109,7 +109,7 @@ module _ {C : Type 0} (k : Kind C) (laws : CostLaws k) (t : Table) (n : ℕ) whe
   open_here p cost awake = (cost_inside p cost, and_from _ _ cost (not_from_false _ awake))
 
   stops_open : (b : Bool) (p : ℕ) (ms : List ℕ) → is_cost (round k t n p) ≡ true → GoodPlay k t n p ms → (b ≡ true → (row_at t (endpoint t p ms)).rests ≡ false)
-      → All (λ q. (q < length t.rows) × (is_open t (round k t n) q ≡ true)) (stops b t p ms)
+      → AllByRecursion (λ q. (q < length t.rows) × (is_open t (round k t n) q ≡ true)) (stops b t p ms)
   stops_open true p [] cost g end = (open_here p cost (end refl), tt)
   stops_open false p [] cost g end = tt
   stops_open true p (m ∷ ms) cost g end = (open_here p cost g.0, stops_open true (move_of t p m).target ms (good_cost k laws t n p m g.1 cost) g.2 end)

@@ -3,7 +3,7 @@ use Rattle.std.specs.Prelude.{◌≡◌, ℕ, suc, ◌<◌, ◌≤◌, true, Lis
 use Rattle.board.specs.Table.{Table}
 use Rattle.cost.specs.Kind.{Kind}
 use Rattle.orders.specs.Counting.{Distinct}
-use Rattle.std.specs.List.{AllByRecursion as All}
+use Rattle.std.specs.List.{AllByRecursion}
 use Rattle.game.specs.Open.{is_open, open_positions}
 use Rattle.game.specs.Rounds.{round, NumberOfRounds}
 
@@ -12,7 +12,7 @@ pub record OpenThen {C : Type 0} (k : Kind C) (t : Table) (n : ℕ) : Type 0 whe
   pub those : List ℕ
   pub many : length those ≡ suc n
   pub distinct : Distinct those
-  pub all_open : All (λ q. (q < length t.rows) × (is_open t (round k t (suc n)) q ≡ true)) those
+  pub all_open : AllByRecursion (λ q. (q < length t.rows) × (is_open t (round k t (suc n)) q ≡ true)) those
 
 pub record RoundsEnd {C : Type 0} (k : Kind C) (t : Table) : Type 0 where
   -- a position that changes in round n + 1 shows as many open positions

@@ -2,7 +2,7 @@
 use Rattle.std.proofs.Common.{◌≡◌, ℕ, suc, ◌*◌, ◌^◌, ◌<◌, ◌≤◌, max, true, false, cond, ◌&&◌, leb, List, [], ◌∷◌, length, Ok, Err, Decides, Result, sym, refl, ap, ◌∙◌, subst, arith}
 use Rattle.std.proofs.lemmas.Bool.{le-leb}
 use Rattle.std.proofs.lemmas.Bool.Decides.{Decides-at, Decides-and, Decides-like}
-use Rattle.std.specs.List.{AllByRecursion as All}
+use Rattle.std.specs.List.{AllByRecursion}
 use Rattle.automaton.specs.Arrows.{automaton_dfa}
 use Rattle.board.specs.Table.{Table, row_at}
 use Rattle.entries.specs.declared.Move.{Move}
@@ -80,7 +80,7 @@ finished_is s ks =
     let b = accepts (rules_dfa s.rules) seen in
     let P : Type 0 = rests ≡ true in
     let Q : Type 0 = a ≡ true in
-    let R : Type 0 = All (λ r. Holds r seen) s.rules in
+    let R : Type 0 = AllByRecursion (λ r. Holds r seen) s.rules in
     let all : Decides ((rests && a) && b) ((P × Q) × R) = Decides-and (rests && a) b (Decides-and rests a ((λ h. h), (λ h. h)) ((λ h. h), (λ h. h))) (rules_are s.rules seen) in
     Decides-like ((rests && a) && b) (λ x. record { rests = x.0.0; accepted = x.0.1; kept = x.1 }) (λ x. ((x.rests, x.accepted), x.kept)) all
 

@@ -1,6 +1,6 @@
 -- The board that is solved for a sheet.
 use Rattle.std.specs.Prelude.{◌≡◌, ℕ, ◌*◌, ◌^◌, max, Bool, true, cond, List, length, Ok, Err, Decides, Result, nat_le}
-use Rattle.std.specs.List.{AllByRecursion as All}
+use Rattle.std.specs.List.{AllByRecursion}
 use Rattle.automaton.specs.Arrows.{automaton_dfa}
 use Rattle.board.specs.Table.{Table, row_at}
 use Rattle.plays.specs.Paths.{IsPath, endpoint, labels}
@@ -36,7 +36,7 @@ load_sheet bs = on_ok (read_sheet largest_room bs) (λ s. cond (nat_le (task_boa
 pub record Finished (s : Sheet) (ks : List ℕ) : Type 0 where
   pub rests : (row_at (sheet_board s) (endpoint (sheet_board s) (sheet_board s).start ks)).rests ≡ true
   pub accepted : accepts (automaton_dfa s.states s.arrows) (labels (sheet_board s) (sheet_board s).start ks) ≡ true
-  pub kept : All (λ r. Holds r (labels (sheet_board s) (sheet_board s).start ks)) s.rules
+  pub kept : AllByRecursion (λ r. Holds r (labels (sheet_board s) (sheet_board s).start ks)) s.rules
 
 -- the moves of the board t are those of the sheet, and t rests after them exactly when the task is finished
 pub record FinishesTask (s : Sheet) (t : Table) : Type 0 where

@@ -1,7 +1,7 @@
 -- A list of distinct numbers below n that pass a test is no longer than the count of those that pass.
 use Rattle.std.proofs.Common.{◌≡◌, ℕ, zero, suc, ◌<◌, ◌≤◌, Bool, true, false, not, ◌&&◌, eqb, List, [], ◌∷◌, length, sym, refl, ⊎_elim, not-suc-le-zero, arith}
 use Rattle.std.proofs.lemmas.Bool.{cond_both, cases_eq, eq-eqb, ne_eqb, and_parts}
-use Rattle.std.specs.List.{AllByRecursion as All}
+use Rattle.std.specs.List.{AllByRecursion}
 use Rattle.orders.specs.Counting.{count, Distinct}
 
 -- the same test, but for p
@@ -53,11 +53,11 @@ count_without test p (suc n) h e = step (count_without test p n)
         (λ k. rw k (omega arith)) (λ k. rw k (omega arith))))
         (cases_eq p n)
 
-pub pigeons : (test : ℕ → Bool) (n : ℕ) (xs : List ℕ) → Distinct xs → All (λ q. (q < n) × (test q ≡ true)) xs → length xs ≤ count test n
+pub pigeons : (test : ℕ → Bool) (n : ℕ) (xs : List ℕ) → Distinct xs → AllByRecursion (λ q. (q < n) × (test q ≡ true)) xs → length xs ≤ count test n
 pigeons test n [] d all = omega arith
 pigeons test n (x ∷ xs) d all = step (pigeons (without test x) n xs d.1 (both xs d.0 all.1))
   where
-    both : (ys : List ℕ) → All (λ y. x ≡ y → ⊥) ys → All (λ q. (q < n) × (test q ≡ true)) ys → All (λ q. (q < n) × (without test x q ≡ true)) ys
+    both : (ys : List ℕ) → AllByRecursion (λ y. x ≡ y → ⊥) ys → AllByRecursion (λ q. (q < n) × (test q ≡ true)) ys → AllByRecursion (λ q. (q < n) × (without test x q ≡ true)) ys
     both [] a b = tt
     both (y ∷ ys) a b = ((b.0.0, rw (without_other test x y a.0) b.0.1), both ys a.1 b.1)
 
