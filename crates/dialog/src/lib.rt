@@ -5,7 +5,7 @@ mod numerals;
 mod parts;
 mod reading;
 mod replies;
-mod words;
+mod spellings;
 
 pub use parts::Command;
 pub use reading::command;

@@ -2,7 +2,7 @@
 ghost use Rattle.std.specs.Prelude.{Some};
 ghost use Rattle.dialog.specs.Replies.{progress_text, begun_text, note_text, end_text};
 
-use crate::words::{event_word, phase_word};
+use crate::spellings::{event_word, phase_word};
 use game::Progress;
 use run::Answer;
 use session::Note;
