@@ -3,7 +3,7 @@ use Rattle.std.proofs.Common.{◌≡◌, ℕ, ◌<◌, ◌≤◌, true, eqb, Lis
 use Rattle.std.proofs.ByRecursion.{All-get_or, all_kept_by, kept_by_passes}
 use Rattle.std.proofs.lemmas.List.{get_or-map, length-map}
 use Rattle.std.proofs.lemmas.Bool.{eqb-true}
-use Rattle.std.specs.List.{AllByRecursion as All}
+use Rattle.std.specs.List.{AllByRecursion}
 use Rattle.board.specs.Ranges.{InRange, RowInRange, MoveInRange}
 use Rattle.board.specs.Table.{absent_move}
 use Rattle.entries.specs.declared.Move.{Move}
@@ -23,7 +23,7 @@ absent : Move
 absent = record { from = 0; to = 0; bruise = 0; energy = 0 }
 
 -- the moves from p are in range
-step_here : (xs : List Position) (ms : List Move) → All (MoveFits xs) ms → (p k : ℕ) → k < length (moves_from p ms) → MoveInRange (length xs) (get_or xs p absent_position).turn (get_or (map step_of (moves_from p ms)) k absent_move)
+step_here : (xs : List Position) (ms : List Move) → AllByRecursion (MoveFits xs) ms → (p k : ℕ) → k < length (moves_from p ms) → MoveInRange (length xs) (get_or xs p absent_position).turn (get_or (map step_of (moves_from p ms)) k absent_move)
 step_here xs ms f p k h =
     let m = get_or (moves_from p ms) k absent in
     let fits = All-get_or (MoveFits xs) (moves_from p ms) k absent h (all_kept_by (λ m. eqb m.from p) (MoveFits xs) ms f) in

@@ -1,7 +1,7 @@
 -- Moves, each of which may follow those before it, are sorted and few from each position.
 use Rattle.std.proofs.Common.{◌≡◌, ℕ, suc, ◌+◌, ◌<◌, ◌≤◌, Bool, true, false, cond, eqb, List, [], ◌∷◌, length, filter, refl, subst, arith}
 use Rattle.std.proofs.lemmas.Bool.{eqb-true, eq-eqb}
-use Rattle.std.specs.List.{AllByRecursion as All}
+use Rattle.std.specs.List.{AllByRecursion}
 use Rattle.entries.specs.declared.Move.{Move}
 use Rattle.entries.specs.declared.Position.{Position}
 use Rattle.sheet_format.proofs.Moves.{Next}
@@ -30,7 +30,7 @@ count_more p m seen few h = go (eqb m.from p) refl
 
 -- what the moves after seen are
 pub record Sorted (ps : List Position) (seen ms : List Move) : Type 0 where
-  pub each : All (MoveFits ps) ms
+  pub each : AllByRecursion (MoveFits ps) ms
   pub rising : NeverFalling (last_from seen) ms
   pub few : (p : ℕ) → count_from p seen ≤ 64 → count_from p seen + count_from p ms ≤ 64
 
@@ -44,6 +44,6 @@ sorted_after ps seen (m ∷ ms) h =
       few = λ p k. omega (arith, count_moved p m seen ms, ih.few p (count_more p m seen h.0.few k));
     }
 
-pub after_sorted : (ps : List Position) (seen ms : List Move) → All (MoveFits ps) ms → NeverFalling (last_from seen) ms → ((p : ℕ) → count_from p seen + count_from p ms ≤ 64) → EachAfter (Next ps) seen ms
+pub after_sorted : (ps : List Position) (seen ms : List Move) → AllByRecursion (MoveFits ps) ms → NeverFalling (last_from seen) ms → ((p : ℕ) → count_from p seen + count_from p ms ≤ 64) → EachAfter (Next ps) seen ms
 after_sorted ps seen [] e r f = tt
 after_sorted ps seen (m ∷ ms) e r f = (record { fits = e.0; rises = r.0; few = omega (arith, f m.from, count_here m ms) }, after_sorted ps (m ∷ seen) ms e.1 r.1 (λ p. omega (arith, f p, count_moved p m seen ms)))

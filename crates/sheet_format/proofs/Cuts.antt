@@ -2,21 +2,21 @@
 use Rattle.std.proofs.Common.{◌≡◌, ℕ, ◌<◌, Bool, true, false, cond, eqb, List, [], ◌∷◌, ◌++◌, Some, None, Option, sym, refl, ap, ◌∙◌, append_assoc, append-nil, arith}
 use Rattle.std.proofs.ByRecursion.{All-append, All-weaker}
 use Rattle.std.proofs.lemmas.Bool.{ne_eqb, eqb-true}
-use Rattle.std.specs.List.{flat_map, AllByRecursion as All}
+use Rattle.std.specs.List.{flat_map, AllByRecursion}
 use Rattle.sheet_format.proofs.Results.{some_along, none_some}
 use Rattle.sheet_format.specs.Cuts.{longer, first_line, in_front, words, spaced, line_of}
 
 -- no LF and no space in a word
 abbrev pub Clean : List ℕ → Type 0
-Clean w = All (λ b. 32 < b) w
+Clean w = AllByRecursion (λ b. 32 < b) w
 
 -- one word or more, each clean
 abbrev pub Tidy : List (List ℕ) → Type 0
 Tidy [] = ⊥
-Tidy (w ∷ ws) = Clean w × All Clean ws
+Tidy (w ∷ ws) = Clean w × AllByRecursion Clean ws
 
 -- the first line is found
-pub first_line_forth : (l rest : List ℕ) → All (λ b. 10 < b) l → first_line (l ++ (10 ∷ rest)) ≡ Some (l, rest)
+pub first_line_forth : (l rest : List ℕ) → AllByRecursion (λ b. 10 < b) l → first_line (l ++ (10 ∷ rest)) ≡ Some (l, rest)
 first_line_forth [] rest h = refl
 first_line_forth (b ∷ l) rest h = rw (ne_eqb b 10 (λ e. omega (arith, h.0)), first_line_forth l rest h.1) refl
 
@@ -44,7 +44,7 @@ words_front : (w l v : List ℕ) (vs : List (List ℕ)) → Clean w → words l 
 words_front [] l v vs c e = e
 words_front (b ∷ w) l v vs c e = rw (ne_eqb b 32 (λ q. omega (arith, c.0)), words_front w l v vs c.1 e) refl
 
-words_behind : (ws : List (List ℕ)) → All Clean ws → words (flat_map (λ v. 32 ∷ v) ws) ≡ [] ∷ ws
+words_behind : (ws : List (List ℕ)) → AllByRecursion Clean ws → words (flat_map (λ v. 32 ∷ v) ws) ≡ [] ∷ ws
 words_behind [] c = refl
 words_behind (w ∷ ws) c = ap (λ us. [] ∷ us) (words_front w (flat_map (λ v. 32 ∷ v) ws) [] ws c.0 (words_behind ws c.1) ∙ ap (λ u. u ∷ ws) (append-nil w))
 
@@ -77,11 +77,11 @@ spaced_words (b ∷ l) = go (eqb b 32) refl (words l) (words_some l) ∙ ap (λ 
     go false e (w ∷ ws) h = refl
 
 -- no LF in a line
-clean_behind : (ws : List (List ℕ)) → All Clean ws → All (λ b. 10 < b) (flat_map (λ v. 32 ∷ v) ws)
+clean_behind : (ws : List (List ℕ)) → AllByRecursion Clean ws → AllByRecursion (λ b. 10 < b) (flat_map (λ v. 32 ∷ v) ws)
 clean_behind [] c = tt
 clean_behind (w ∷ ws) c = (omega arith, All-append (λ b. 10 < b) w (flat_map (λ v. 32 ∷ v) ws) (All-weaker (λ b. 32 < b) (λ b. 10 < b) (λ b h. omega arith) w c.0) (clean_behind ws c.1))
 
-clean_line : (ws : List (List ℕ)) → Tidy ws → All (λ b. 10 < b) (spaced ws)
+clean_line : (ws : List (List ℕ)) → Tidy ws → AllByRecursion (λ b. 10 < b) (spaced ws)
 clean_line [] c = absurd c
 clean_line (w ∷ ws) c = All-append (λ b. 10 < b) w (flat_map (λ v. 32 ∷ v) ws) (All-weaker (λ b. 32 < b) (λ b. 10 < b) (λ b h. omega arith) w c.0) (clean_behind ws c.1)
 

@@ -5,7 +5,7 @@ use Rattle.std.proofs.lemmas.Slice.Eq.{bytes_eq-Decides}
 use Rattle.std.proofs.lemmas.List.{drop_all, drop_more}
 use Rattle.std.proofs.lemmas.Bool.{and_from, and_parts, ltb-true, lt-ltb, leb-true, le-leb, eqb-true, eq-eqb}
 use Rattle.std.specs.Str.Parse.{digits_value}
-use Rattle.std.specs.List.{AllByRecursion as All}
+use Rattle.std.specs.List.{AllByRecursion}
 use Rattle.std.specs.Str.{bytes_eq}
 use Rattle.refusal.specs.declared.Refusal.{Refusal}
 use Rattle.sheet_format.proofs.Cuts.{Clean}
@@ -17,11 +17,11 @@ use Rattle.sheet_format.specs.Numbers.{is_number}
 -- words that differ from one another
 abbrev pub Apart : List (List ℕ) → Type 0
 Apart [] = Unit {0}
-Apart (v ∷ vs) = All (λ w. bytes_eq w v ≡ false) vs × Apart vs
+Apart (v ∷ vs) = AllByRecursion (λ w. bytes_eq w v ≡ false) vs × Apart vs
 
 -- a field whose words can be told apart: clean words, or numbers of 10 digits at most
 abbrev pub Proper : Field → Type 0
-Proper (one_of f vs) = Apart vs × All Clean vs
+Proper (one_of f vs) = Apart vs × AllByRecursion Clean vs
 Proper (between low high) = high < 10000000000
 Proper (below n) = n ≤ 10000000000
 
@@ -79,7 +79,7 @@ field_clean (between low high) x p h = clean_decimal x (omega arith)
 field_clean (below n) x p h = clean_decimal x (omega arith)
 
 -- a row of fields
-pub row_forth : (k : ℕ) (fs : List Field) (xs : List ℕ) → All Proper fs → RowFits fs xs → read_row k fs (row_words fs xs) ≡ Ok xs
+pub row_forth : (k : ℕ) (fs : List Field) (xs : List ℕ) → AllByRecursion Proper fs → RowFits fs xs → read_row k fs (row_words fs xs) ≡ Ok xs
 row_forth k [] [] p h = refl
 row_forth k [] (x ∷ xs) p h = absurd h
 row_forth k (f ∷ fs) [] p h = absurd h
@@ -103,7 +103,7 @@ row_back k (f ∷ fs) (w ∷ ws) xs l e =
     let d = row_back (suc k) fs ws b.0 (omega arith) b.1 in
     ok_along (RowIs (f ∷ fs) (w ∷ ws)) (a.0 ∷ b.0) xs b.2 ((c.0, d.0), ap₂ (λ u us. u ∷ us) c.1 d.1)
 
-pub row_clean : (fs : List Field) (xs : List ℕ) → All Proper fs → RowFits fs xs → All Clean (row_words fs xs)
+pub row_clean : (fs : List Field) (xs : List ℕ) → AllByRecursion Proper fs → RowFits fs xs → AllByRecursion Clean (row_words fs xs)
 row_clean [] [] p h = tt
 row_clean [] (x ∷ xs) p h = absurd h
 row_clean (f ∷ fs) [] p h = absurd h
@@ -116,7 +116,7 @@ length_row_words (f ∷ fs) [] h = absurd h
 length_row_words (f ∷ fs) (x ∷ xs) h = ap suc (length_row_words fs xs h.1)
 
 -- with the count of words
-pub fields_forth : (k : ℕ) (fs : List Field) (xs : List ℕ) → All Proper fs → RowFits fs xs → read_fields k fs (row_words fs xs) ≡ Ok xs
+pub fields_forth : (k : ℕ) (fs : List Field) (xs : List ℕ) → AllByRecursion Proper fs → RowFits fs xs → read_fields k fs (row_words fs xs) ≡ Ok xs
 fields_forth k fs xs p h = rw (eq-eqb (length (row_words fs xs)) (length fs) (length_row_words fs xs h), row_forth k fs xs p h) refl
 
 pub fields_back : (k : ℕ) (fs : List Field) (ws : List (List ℕ)) (xs : List ℕ) → read_fields k fs ws ≡ Ok xs → RowFits fs xs × (row_words fs xs ≡ ws)

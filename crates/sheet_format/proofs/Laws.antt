@@ -1,7 +1,7 @@
 -- The laws of the format.
 use Rattle.std.proofs.Common.{ℕ, ◌≤◌, eqb, leb, List, [], ◌∷◌, ◌++◌, length, sym, refl, subst, arith, length-append}
 use Rattle.std.proofs.lemmas.Bool.{cond_both, eqb-true, le-leb, leb-true}
-use Rattle.std.specs.List.{AllByRecursion as All}
+use Rattle.std.specs.List.{AllByRecursion}
 use Rattle.refusal.specs.declared.Refusal.TheVariants.{TooLong}
 use Rattle.entries.specs.declared.Arrow.{Arrow}
 use Rattle.sheet_format.proofs.Counts.{sorted_after, after_sorted}
@@ -18,11 +18,11 @@ use Rattle.sheet_format.specs.Spelling.{spelled}
 use Rattle.sheet_format.specs.WellFormed.{ArrowFits, WellFormed}
 
 -- without states there is no arrow
-arrows_most : (m : ℕ) (xs : List Arrow) → length xs ≤ 256 → All (ArrowFits m) xs → length xs ≤ most_arrows m
+arrows_most : (m : ℕ) (xs : List Arrow) → length xs ≤ 256 → AllByRecursion (ArrowFits m) xs → length xs ≤ most_arrows m
 arrows_most m [] h fits = omega arith
 arrows_most m (x ∷ xs) h fits = cond_both (eqb m 0) 0 256 (λ n. length (x ∷ xs) ≤ n) (λ e. omega (arith, eqb-true m 0 e, fits.0.from)) (λ e. h)
 
-all_units : {A : Type 0} (xs : List A) → All (λ x. Unit {0}) xs
+all_units : {A : Type 0} (xs : List A) → AllByRecursion (λ x. Unit {0}) xs
 all_units [] = tt
 all_units (x ∷ xs) = (tt, all_units xs)
 

@@ -1,6 +1,6 @@
 -- A kind of line: what it may say, and how it is written.
 use Rattle.std.proofs.Common.{◌≡◌, ℕ, ◌<◌, List, [], ◌∷◌, length, Ok, Result, sym, refl, ap, ◌∙◌, subst, arith}
-use Rattle.std.specs.List.{AllByRecursion as All}
+use Rattle.std.specs.List.{AllByRecursion}
 use Rattle.sheet_format.proofs.Cuts.{Clean, Tidy}
 use Rattle.sheet_format.proofs.Fields.{Proper, fields_forth, fields_back, row_clean}
 use Rattle.sheet_format.proofs.Results.{ok_along, on_ok_parts}
@@ -24,7 +24,7 @@ lawful_as l Fine there back = record {
 
 -- a value as a row of fields, and a row as a value
 pub record RowKind {A : Type 0} (fs : List Field) (of : List ℕ → A) (row : A → List ℕ) (ws : A → List (List ℕ)) : Type 0 where
-  pub proper : All Proper fs
+  pub proper : AllByRecursion Proper fs
   pub some : 0 < length fs
   pub value_back : (a : A) → of (row a) ≡ a
   pub row_back : (r : List ℕ) → RowFits fs r → row (of r) ≡ r
@@ -38,7 +38,7 @@ pub record Checks {A : Type 0} (check : A → Result A LineFault) (Pass : A → 
 pub no_checks : {A : Type 0} → Checks (λ (a : A). Ok a) (λ a. Unit {0})
 no_checks = record { forth = λ a h. refl; back = λ a b e. (tt, ok_along (λ c. a ≡ c) a b e refl) }
 
-tidy_words : (ws : List (List ℕ)) → 0 < length ws → All Clean ws → Tidy ws
+tidy_words : (ws : List (List ℕ)) → 0 < length ws → AllByRecursion Clean ws → Tidy ws
 tidy_words [] l c = absurd (omega arith)
 tidy_words (w ∷ ws) l c = c
 

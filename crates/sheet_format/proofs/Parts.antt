@@ -1,7 +1,7 @@
 -- Each section of a sheet is read as it was written.
 use Rattle.std.proofs.Common.{ℕ, ◌≤◌, Bool, eqb, List, [], length, codes, arith}
 use Rattle.std.proofs.lemmas.Bool.{cond_both}
-use Rattle.std.specs.List.{AllByRecursion as All}
+use Rattle.std.specs.List.{AllByRecursion}
 use Rattle.entries.specs.declared.Arrow.{Arrow}
 use Rattle.entries.specs.declared.Move.{Move}
 use Rattle.entries.specs.declared.Position.{Position}
@@ -25,19 +25,19 @@ most_arrows_le m = cond_both (eqb m 0) 0 256 (λ n. n ≤ 256) (λ e. omega arit
 
 -- each section by itself
 abbrev pub GoodPositions : Room → List Position → Type 0
-GoodPositions z xs = CountFits 1 4096 z.positions (length xs) × All (λ p. p.label ≤ 65535) xs
+GoodPositions z xs = CountFits 1 4096 z.positions (length xs) × AllByRecursion (λ p. p.label ≤ 65535) xs
 
 abbrev pub GoodMoves : Room → List Position → List Move → Type 0
 GoodMoves z ps xs = CountFits 0 4096 z.moves (length xs) × EachAfter (Next ps) [] xs
 
 abbrev pub GoodStates : Room → List Bool → Type 0
-GoodStates z xs = CountFits 0 64 z.states (length xs) × All (λ b. Unit {0}) xs
+GoodStates z xs = CountFits 0 64 z.states (length xs) × AllByRecursion (λ b. Unit {0}) xs
 
 abbrev pub GoodArrows : Room → ℕ → List Arrow → Type 0
-GoodArrows z m xs = CountFits 0 (most_arrows m) z.arrows (length xs) × All (ArrowFits m) xs
+GoodArrows z m xs = CountFits 0 (most_arrows m) z.arrows (length xs) × AllByRecursion (ArrowFits m) xs
 
 abbrev pub GoodRules : Room → List Rule → Type 0
-GoodRules z xs = CountFits 0 5 z.rules (length xs) × All RuleFits xs
+GoodRules z xs = CountFits 0 5 z.rules (length xs) × AllByRecursion RuleFits xs
 
 pub positions_reads : (z : Room) → Reads (section (codes "positions") 1 4096 z.positions position_line) (section_of (codes "positions") position_words) (GoodPositions z)
 positions_reads z = each_reads position_line position_words (λ p. p.label ≤ 65535) position_lawful (codes "positions") (omega arith) 1 4096 z.positions (omega arith)

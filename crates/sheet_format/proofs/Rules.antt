@@ -1,6 +1,6 @@
 -- Rule lines: a name, then the signs that it asks for.
 use Rattle.std.proofs.Common.{◌≡◌, ℕ, zero, suc, ◌<◌, ◌≤◌, List, [], ◌∷◌, get_or, Some, None, Ok, Option, refl, ap₂, arith}
-use Rattle.std.specs.List.{AllByRecursion as All}
+use Rattle.std.specs.List.{AllByRecursion}
 use Rattle.refusal.specs.declared.Refusal.TheVariants.{UnknownMark}
 use Rattle.entries.specs.declared.Rule.{Rule}
 use Rattle.entries.specs.declared.Rule.TheVariants.{Met, Never, Before, After}
@@ -19,10 +19,10 @@ one_sign = sign ∷ []
 abbrev two_signs : List Field
 two_signs = sign ∷ sign ∷ []
 
-proper_one : All Proper one_sign
+proper_one : AllByRecursion Proper one_sign
 proper_one = (omega arith, tt)
 
-proper_two : All Proper two_signs
+proper_two : AllByRecursion Proper two_signs
 proper_two = (omega arith, (omega arith, tt))
 
 fits_one : (p : ℕ) → p ≤ 15 → RowFits one_sign (p ∷ [])

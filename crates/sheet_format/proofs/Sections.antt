@@ -1,6 +1,6 @@
 -- A section is read as it was written.
 use Rattle.std.proofs.Common.{◌≡◌, ℕ, zero, suc, ◌<◌, List, [], ◌∷◌, ◌++◌, length, sym, refl, ap, subst, arith}
-use Rattle.std.specs.List.{flat_map, AllByRecursion as All}
+use Rattle.std.specs.List.{flat_map, AllByRecursion}
 use Rattle.sheet_format.proofs.Cuts.{Clean}
 use Rattle.sheet_format.proofs.Headers.{header_lawful}
 use Rattle.sheet_format.proofs.LineKinds.{Lawful}
@@ -56,13 +56,13 @@ module _ {A : Type 0} (f : List A → LineReading A) (ws : A → List (List ℕ)
   })
 
 -- where the entries before do not matter
-after_all : {A : Type 0} (P : A → Type 0) (seen xs : List A) → All P xs → EachAfter (λ _. P) seen xs
+after_all : {A : Type 0} (P : A → Type 0) (seen xs : List A) → AllByRecursion P xs → EachAfter (λ _. P) seen xs
 after_all P seen [] h = tt
 after_all P seen (x ∷ xs) h = (h.0, after_all P (x ∷ seen) xs h.1)
 
-all_after : {A : Type 0} (P : A → Type 0) (seen xs : List A) → EachAfter (λ _. P) seen xs → All P xs
+all_after : {A : Type 0} (P : A → Type 0) (seen xs : List A) → EachAfter (λ _. P) seen xs → AllByRecursion P xs
 all_after P seen [] h = tt
 all_after P seen (x ∷ xs) h = (h.0, all_after P (x ∷ seen) xs h.1)
 
-pub each_reads : {A : Type 0} (f : List A → LineReading A) (ws : A → List (List ℕ)) (P : A → Type 0) → ((seen : List A) → Lawful (f seen) ws P) → (name : List ℕ) → Clean name → (low high room : ℕ) → high < 10000000000 → Reads (section name low high room f) (section_of name ws) (λ xs. CountFits low high room (length xs) × All P xs)
-each_reads f ws P lawful name c low high room h = reads_as (section name low high room f) (section_of name ws) (section_of name ws) (λ xs. CountFits low high room (length xs) × EachAfter (λ _. P) [] xs) (λ xs. CountFits low high room (length xs) × All P xs) (section_reads f ws (λ _. P) lawful name c low high room h) (λ xs w. ((w.0, after_all P [] xs w.1), refl)) (λ xs w. ((w.0, all_after P [] xs w.1), refl))
+pub each_reads : {A : Type 0} (f : List A → LineReading A) (ws : A → List (List ℕ)) (P : A → Type 0) → ((seen : List A) → Lawful (f seen) ws P) → (name : List ℕ) → Clean name → (low high room : ℕ) → high < 10000000000 → Reads (section name low high room f) (section_of name ws) (λ xs. CountFits low high room (length xs) × AllByRecursion P xs)
+each_reads f ws P lawful name c low high room h = reads_as (section name low high room f) (section_of name ws) (section_of name ws) (λ xs. CountFits low high room (length xs) × EachAfter (λ _. P) [] xs) (λ xs. CountFits low high room (length xs) × AllByRecursion P xs) (section_reads f ws (λ _. P) lawful name c low high room h) (λ xs w. ((w.0, after_all P [] xs w.1), refl)) (λ xs w. ((w.0, all_after P [] xs w.1), refl))

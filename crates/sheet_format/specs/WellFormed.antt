@@ -1,6 +1,6 @@
 -- The sheets that can be written: every number in its range, and room for each section.
 use Rattle.std.specs.Prelude.{◌≡◌, ℕ, ◌<◌, ◌≤◌, List, [], ◌∷◌, length, slice_index_or}
-use Rattle.std.specs.List.{AllByRecursion as All}
+use Rattle.std.specs.List.{AllByRecursion}
 use Rattle.board.specs.declared.parts.Turn.TheVariants.{Person}
 use Rattle.entries.specs.declared.Arrow.{Arrow}
 use Rattle.entries.specs.declared.Move.{Move}
@@ -46,16 +46,16 @@ pub record CountFits (low high room n : ℕ) : Type 0 where
 
 pub record WellFormed (z : Room) (s : Sheet) : Type 0 where
   pub positions : CountFits 1 4096 z.positions (length s.positions)
-  pub labels : All (λ p. p.label ≤ 65535) s.positions
+  pub labels : AllByRecursion (λ p. p.label ≤ 65535) s.positions
   pub moves : CountFits 0 4096 z.moves (length s.moves)
-  pub each_move : All (MoveFits s.positions) s.moves
+  pub each_move : AllByRecursion (MoveFits s.positions) s.moves
   pub sorted : NeverFalling 0 s.moves
   pub few : (p : ℕ) → count_from p s.moves ≤ 64
   pub states : CountFits 0 64 z.states (length s.states)
   pub arrows : CountFits 0 256 z.arrows (length s.arrows)
-  pub each_arrow : All (ArrowFits (length s.states)) s.arrows
+  pub each_arrow : AllByRecursion (ArrowFits (length s.states)) s.arrows
   pub rules : CountFits 0 5 z.rules (length s.rules)
-  pub each_rule : All RuleFits s.rules
+  pub each_rule : AllByRecursion RuleFits s.rules
   pub start : s.start.position < length s.positions
   pub bruise : s.start.bruise ≤ top
   pub energy : s.start.energy ≤ top

@@ -3,7 +3,7 @@ use Rattle.std.proofs.Common.{◌≡◌, ℕ, ◌+◌, ◌≤◌, Bool, true, fa
 use Rattle.std.proofs.ByRecursion.{All-from_get_or, All-weaker}
 use Rattle.std.proofs.lemmas.List.{length-map}
 use Rattle.std.proofs.lemmas.Bool.{and_from, le-leb, lt-ltb, eq-eqb, cases_Bool, cond-true, cond-false}
-use Rattle.std.specs.List.{AllByRecursion as All}
+use Rattle.std.specs.List.{AllByRecursion}
 use Rattle.board.specs.declared.parts.Turn.{Turn}
 use Rattle.board.specs.declared.parts.Turn.TheVariants.{Arm, Person}
 use Rattle.board.specs.Ranges.{RowInRange, MoveInRange}
@@ -18,11 +18,11 @@ use Rattle.table.specs.Meaning.{board_of, idle_board}
 use Rattle.table.specs.Ranges.{EntryHolds, fit_entries, fit_in_range, length_span}
 
 -- a test that all pass
-all_every : {X : Type 0} (f : X → Bool) (P : X → Type 0) → ((x : X) → P x → f x ≡ true) → (xs : List X) → All P xs → every f xs ≡ true
+all_every : {X : Type 0} (f : X → Bool) (P : X → Type 0) → ((x : X) → P x → f x ≡ true) → (xs : List X) → AllByRecursion P xs → every f xs ≡ true
 all_every f P pass [] h = refl
 all_every f P pass (x ∷ xs) h = and_from (f x) (every f xs) (pass x h.0) (all_every f P pass xs h.1)
 
-all_unmapped : {X Y : Type 0} (P : Y → Type 0) (f : X → Y) (xs : List X) → All P (map f xs) → All (λ x. P (f x)) xs
+all_unmapped : {X Y : Type 0} (P : Y → Type 0) (f : X → Y) (xs : List X) → AllByRecursion P (map f xs) → AllByRecursion (λ x. P (f x)) xs
 all_unmapped P f [] h = tt
 all_unmapped P f (x ∷ xs) h = (h.0, all_unmapped P f xs h.1)
 
@@ -39,7 +39,7 @@ entry_passes n ms e h =
     let moves = all_unmapped (MoveInRange n e.position.turn) step_of (span ms e) (All-from_get_or (MoveInRange n e.position.turn) (map step_of (span ms e)) absent_move h.row.each_move) in
     and_from _ _ (lt-ltb e.position.label 65536 h.row.label_top) (and_from _ _ (le-leb e.degree 64 (omega (arith, count, length_span ms e h.inside, h.row.degree_top))) (and_from _ _ (le-leb (e.first + e.degree) (length ms) h.inside) (all_every (move_fits n e.position.turn) (λ m. MoveInRange n e.position.turn (step_of m)) (move_passes n e.position.turn) (span ms e) moves)))
 
-both_all : {X : Type 0} (P Q R : X → Type 0) → ((x : X) → P x → Q x → R x) → (xs : List X) → All P xs → All Q xs → All R xs
+both_all : {X : Type 0} (P Q R : X → Type 0) → ((x : X) → P x → Q x → R x) → (xs : List X) → AllByRecursion P xs → AllByRecursion Q xs → AllByRecursion R xs
 both_all P Q R f [] a b = tt
 both_all P Q R f (x ∷ xs) a b = (f x a.0 b.0, both_all P Q R f xs a.1 b.1)
 
@@ -48,7 +48,7 @@ pub held_fit : (es : List PositionEntry) (ms : List Move) (start : ℕ) → Tabl
 held_fit es ms start h =
     let row : PositionEntry → Row = λ e. row_of e.position (span ms e) in
     let count : length (map row es) ≡ length es = length-map es row in
-    let rows : All (RowInRange (length es)) (map row es) = All-from_get_or (RowInRange (length es)) (map row es) absent_row (λ p l. subst (λ n. RowInRange n (get_or (map row es) p absent_row)) count (h.ranges.each_row p l)) in
+    let rows : AllByRecursion (RowInRange (length es)) (map row es) = All-from_get_or (RowInRange (length es)) (map row es) absent_row (λ p l. subst (λ n. RowInRange n (get_or (map row es) p absent_row)) count (h.ranges.each_row p l)) in
     let each = both_all (λ e. RowInRange (length es) (row e)) (λ e. e.first + e.degree ≤ length ms) (EntryHolds (length es) ms) (λ e a b. record { row = a; inside = b }) es (all_unmapped (RowInRange (length es)) row es rows) h.inside in
     and_from _ _ (le-leb (length es) 4096 (omega (arith, count, h.ranges.few))) (and_from _ _ (lt-ltb start (length es) (omega (arith, count, h.ranges.starts))) (all_every (entry_fits (length es) ms) (EntryHolds (length es) ms) (entry_passes (length es) ms) es each))
 

@@ -1,6 +1,6 @@
 -- Tables that hold a board, and the test that tells them.
 use Rattle.std.specs.Prelude.{ℕ, ◌+◌, ◌≤◌, Bool, true, cond, ◌&&◌, List, [], ◌∷◌, length, take, drop, ◌==◌, nat_le, nat_lt}
-use Rattle.std.specs.List.{AllByRecursion as All}
+use Rattle.std.specs.List.{AllByRecursion}
 use Rattle.board.specs.declared.parts.Turn.{Turn}
 use Rattle.board.specs.Ranges.{InRange}
 use Rattle.entries.specs.declared.Move.{Move}
@@ -11,7 +11,7 @@ use Rattle.sheet_format.specs.Lines.{is_person}
 -- the tables hold a board: it is within the ranges, and the moves of each entry lie inside the move table
 pub record TablesHold (es : List PositionEntry) (ms : List Move) (start : ℕ) : Type 0 where
   pub ranges : InRange (tables_board es ms start)
-  pub inside : All (λ e. e.first + e.degree ≤ length ms) es
+  pub inside : AllByRecursion (λ e. e.first + e.degree ≤ length ms) es
 
 -- whether all elements pass a test
 abbrev pub every : {X : Type 0} → (X → Bool) → List X → Bool

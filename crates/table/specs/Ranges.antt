@@ -4,7 +4,7 @@ use Rattle.std.proofs.Common.{sym, subst, arith}
 use Rattle.std.proofs.ByRecursion.{All-get_or, All-map, All-weaker}
 use Rattle.std.proofs.lemmas.List.{length-map, length-take-le, length-drop}
 use Rattle.std.proofs.lemmas.Bool.{and_parts, leb-true, ltb-true, eqb-true}
-use Rattle.std.specs.List.{AllByRecursion as All}
+use Rattle.std.specs.List.{AllByRecursion}
 use Rattle.board.specs.declared.parts.Turn.{Turn}
 use Rattle.board.specs.declared.parts.Turn.TheVariants.{Person}
 use Rattle.board.specs.Ranges.{InRange, RowInRange, MoveInRange}
@@ -16,7 +16,7 @@ use Rattle.sheet_format.specs.Lines.{is_person}
 use Rattle.table.specs.Fit.{every, move_fits, span, entry_fits, tables_fit}
 
 -- all elements that pass a test have what it shows
-pub every_all : {X : Type 0} (f : X → Bool) (P : X → Type 0) → ((x : X) → f x ≡ true → P x) → (xs : List X) → every f xs ≡ true → All P xs
+pub every_all : {X : Type 0} (f : X → Bool) (P : X → Type 0) → ((x : X) → f x ≡ true → P x) → (xs : List X) → every f xs ≡ true → AllByRecursion P xs
 every_all f P show [] h = tt
 every_all f P show (x ∷ xs) h =
     let both = and_parts (f x) (every f xs) h in
@@ -43,7 +43,7 @@ pub record EntryHolds (n : ℕ) (ms : List Move) (e : PositionEntry) : Type 0 wh
 pub length_span : (ms : List Move) (e : PositionEntry) → e.first + e.degree ≤ length ms → length (span ms e) ≡ e.degree
 length_span ms e h = length-take-le e.degree (drop e.first ms) (omega (arith, length-drop e.first ms))
 
-entry_parts : (n : ℕ) (ms : List Move) (e : PositionEntry) → entry_fits n ms e ≡ true → (e.position.label < 65536) × (e.degree ≤ 64) × (e.first + e.degree ≤ length ms) × All (λ m. MoveInRange n e.position.turn (step_of m)) (span ms e)
+entry_parts : (n : ℕ) (ms : List Move) (e : PositionEntry) → entry_fits n ms e ≡ true → (e.position.label < 65536) × (e.degree ≤ 64) × (e.first + e.degree ≤ length ms) × AllByRecursion (λ m. MoveInRange n e.position.turn (step_of m)) (span ms e)
 entry_parts n ms e h =
     let a = and_parts _ _ h in
     let b = and_parts _ _ a.1 in
@@ -64,13 +64,13 @@ entry_shows n ms e h =
     }
 
 -- what the test shows of tables
-fit_parts : (es : List PositionEntry) (ms : List Move) (start : ℕ) → tables_fit es ms start ≡ true → (length es ≤ 4096) × (start < length es) × All (EntryHolds (length es) ms) es
+fit_parts : (es : List PositionEntry) (ms : List Move) (start : ℕ) → tables_fit es ms start ≡ true → (length es ≤ 4096) × (start < length es) × AllByRecursion (EntryHolds (length es) ms) es
 fit_parts es ms start h =
     let a = and_parts _ _ h in
     let b = and_parts _ _ a.1 in
     (leb-true (length es) 4096 a.0, ltb-true start (length es) b.0, every_all (entry_fits (length es) ms) (EntryHolds (length es) ms) (entry_shows (length es) ms) es b.1)
 
-pub fit_entries : (es : List PositionEntry) (ms : List Move) (start : ℕ) → tables_fit es ms start ≡ true → All (EntryHolds (length es) ms) es
+pub fit_entries : (es : List PositionEntry) (ms : List Move) (start : ℕ) → tables_fit es ms start ≡ true → AllByRecursion (EntryHolds (length es) ms) es
 fit_entries es ms start h = (fit_parts es ms start h).2
 
 pub fit_in_range : (es : List PositionEntry) (ms : List Move) (start : ℕ) → tables_fit es ms start ≡ true → InRange (tables_board es ms start)
@@ -78,7 +78,7 @@ fit_in_range es ms start h =
     let parts = fit_parts es ms start h in
     let row : PositionEntry → Row = λ e. row_of e.position (span ms e) in
     let count : length (map row es) ≡ length es = length-map es row in
-    let rows : All (RowInRange (length es)) (map row es) = All-map (RowInRange (length es)) row es (All-weaker (EntryHolds (length es) ms) (λ e. RowInRange (length es) (row e)) (λ e k. k.row) es parts.2) in
+    let rows : AllByRecursion (RowInRange (length es)) (map row es) = All-map (RowInRange (length es)) row es (All-weaker (EntryHolds (length es) ms) (λ e. RowInRange (length es) (row e)) (λ e k. k.row) es parts.2) in
     record {
       few = omega (arith, count, parts.0);
       starts = omega (arith, count, parts.1);
