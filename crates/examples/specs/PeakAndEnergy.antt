@@ -1,8 +1,8 @@
 -- A board that tells peak from energy.
-use Rattle.std.specs.Prelude.{◌≡◌, ℕ, true, false, List, [], ◌∷◌, Some}
+use Rattle.std.specs.Prelude.{◌≡◌, ℕ, true, false, [], ◌∷◌, Some}
 use Rattle.board.specs.declared.parts.Step.{Step}
 use Rattle.board.specs.declared.parts.Turn.TheVariants.{Arm}
-use Rattle.board.specs.Table.{Row, Table}
+use Rattle.board.specs.Table.{Table}
 use Rattle.cost.specs.EnergyKind.{energy_of, energy_kind}
 use Rattle.cost.specs.PeakKind.{peak_of, peak_kind}
 use Rattle.game.specs.Choices.{chosen}

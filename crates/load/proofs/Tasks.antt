@@ -1,5 +1,5 @@
 -- The board of a sheet with its tasks joined.
-use Rattle.std.proofs.Common.{◌≡◌, ℕ, suc, ◌*◌, ◌^◌, ◌<◌, ◌≤◌, max, true, false, cond, ◌&&◌, leb, List, [], ◌∷◌, length, Ok, Err, Decides, Result, sym, refl, ap, ◌∙◌, subst, arith}
+use Rattle.std.proofs.Common.{◌≡◌, ℕ, suc, ◌*◌, ◌^◌, ◌≤◌, max, true, false, cond, ◌&&◌, leb, List, [], ◌∷◌, length, Ok, Err, Decides, Result, sym, refl, ap, ◌∙◌, subst}
 use Rattle.std.proofs.lemmas.Bool.{le-leb}
 use Rattle.std.proofs.lemmas.Bool.Decides.{Decides-at, Decides-and, Decides-like}
 use Rattle.std.specs.List.{AllByRecursion}
@@ -10,8 +10,7 @@ use Rattle.entries.specs.declared.Position.{Position}
 use Rattle.flat.specs.Meaning.{flat_meaning, flat_ranges}
 use Rattle.flat.specs.declared.holder.FlatBoard.{FlatBoard}
 use Rattle.joined.specs.Meant.{join_size, meant}
-use Rattle.plays.specs.Paths.{IsPath, endpoint, labels}
-use Rattle.product.specs.Joins.{finished}
+use Rattle.plays.specs.Paths.{endpoint, labels}
 use Rattle.product.specs.Product.{joined}
 use Rattle.refusal.specs.declared.Refusal.TheVariants.{JoinTooLarge}
 use Rattle.rules.proofs.Each.{rules_are}
@@ -25,7 +24,7 @@ use Rattle.sheet_format.specs.Sheets.{Sheet}
 use Rattle.sheet_format.specs.declared.Fault.{Fault}
 use Rattle.task.specs.Dfa.{Dfa, accepts}
 use Rattle.twice.specs.Twice.{RoomForBoth}
-use Rattle.load.specs.Boards.{task_board, task_board_size, largest_room, load_sheet, Finished, FinishesTask}
+use Rattle.load.specs.Boards.{task_board_size, largest_room, load_sheet, Finished, FinishesTask}
 
 -- as many rows as positions
 pub length_rows : (ms : List Move) (p : ℕ) (xs : List Position) → length (rows_from ms p xs) ≡ length xs

@@ -1,5 +1,5 @@
 -- The board that is solved for a sheet.
-use Rattle.std.specs.Prelude.{◌≡◌, ℕ, ◌*◌, ◌^◌, max, Bool, true, cond, List, length, Ok, Err, Decides, Result, nat_le}
+use Rattle.std.specs.Prelude.{◌≡◌, ℕ, ◌*◌, ◌^◌, max, true, cond, List, length, Ok, Err, Decides, Result, nat_le}
 use Rattle.std.specs.List.{AllByRecursion}
 use Rattle.automaton.specs.Arrows.{automaton_dfa}
 use Rattle.board.specs.Table.{Table, row_at}

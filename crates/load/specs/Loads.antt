@@ -2,7 +2,6 @@
 use Rattle.std.specs.Prelude.{◌≡◌, ℕ, List, Ok, Err, Result}
 use Rattle.flat.specs.Meaning.{flat_meaning}
 use Rattle.sheet_format.specs.Sheets.{Sheet}
-use Rattle.sheet_format.specs.declared.Fault.{Fault}
 use Rattle.load.specs.Boards.{task_board, load_sheet, FinishesTask}
 use Rattle.load.specs.declared.parts.Bench.{Bench}
 use Rattle.load.specs.declared.parts.LoadError.{LoadError}

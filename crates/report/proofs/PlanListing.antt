@@ -1,5 +1,5 @@
 -- The listing of a plan is that of the rounds.
-use Rattle.std.proofs.Common.{◌≡◌, ℕ, zero, suc, ◌<◌, List, ◌++◌, length, get_or, take, sym, refl, ap, ◌∙◌, subst, append_assoc, arith}
+use Rattle.std.proofs.Common.{◌≡◌, ℕ, zero, suc, ◌<◌, List, ◌++◌, length, refl, ap, ◌∙◌, append_assoc, arith}
 use Rattle.std.proofs.lemmas.List.{get_or-take}
 use Rattle.board.specs.Ranges.{InRange}
 use Rattle.board.specs.Table.{Table}
@@ -21,7 +21,7 @@ use Rattle.solve.specs.Verdicts.{verdict_of}
 use Rattle.solve.specs.declared.plan.Plan.{Plan}
 use Rattle.wording.specs.declared.kinds.CostKind.{CostKind}
 use Rattle.wording.specs.declared.kinds.CostKind.TheVariants.{Energy, Peak, Care}
-use Rattle.report.specs.Reports.{budget_of, kind_listing, ListsKind, ListsBoard, AppendsKind, AppendsKinds}
+use Rattle.report.specs.Reports.{budget_of, kind_listing, ListsKind, AppendsKind, AppendsKinds}
 
 -- lines of like cells
 same_lines : (kind : CostKind) (t : Table) (f g : ℕ → Cell) (n : ℕ) → ((p : ℕ) → p < n → f p ≡ g p) → position_lines kind t f n ≡ position_lines kind t g n

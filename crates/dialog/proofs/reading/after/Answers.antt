@@ -1,4 +1,3 @@
-use Rattle.std.proofs.Common.{◌∙◌, arith}
 use native.Mathlib.Nat.{sub-zero}
 use Rattle.std.proofs.lemmas.Bool.{both_ways}
 use Rattle.dialog.proofs.Beginnings.{too_short, front_is, begins_so}
