@@ -1,4 +1,4 @@
-//! What `bench` prints for a sheet: the listing of its board for each kind of cost, or its one refusal.
+//! What `figures` prints for a sheet: the listing of its board for each kind of cost, or its one refusal.
 #![tactic(auto)]
 
 mod kinds;
