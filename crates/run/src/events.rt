@@ -1,9 +1,10 @@
 // Events of a run.
-ghost use Rattle.std.specs.Prelude.{◌≡◌};
+ghost use Rattle.std.specs.Prelude.{◌≡◌, IfErr};
 ghost use Rattle.cells.specs.Said.{plan_cell};
 ghost use Rattle.cost.specs.Numbers.{on_numbers};
-ghost use Rattle.game.specs.Events.{if_there, outcome, after_event};
+ghost use Rattle.game.specs.Events.{refused, if_there, outcome, after_event};
 ghost use Rattle.game.specs.Progress.{moved};
+ghost use Rattle.refusal.specs.Number.{refusal_number};
 ghost use Rattle.run.specs.Answers.{answer_of, plan_move};
 
 use crate::beginning::phase_at;
@@ -59,6 +60,7 @@ impl<'a, C: Cost> Run<'a, C> {
         ensures plan { self.new.plan ≡ self.old.plan }
         ensures after { self.new.progress ≡ after_event (on_numbers C.kind) (B.meaning board.now) self.old.plan.count (plan_move self.old.plan) self.old.progress event }
         ensures answer { result ≡ answer_of (outcome (B.meaning board.now) self.old.plan.count (plan_move self.old.plan) self.old.progress event) }
+        ensures number { IfErr result (λ e. outcome (B.meaning board.now) self.old.plan.count (plan_move self.old.plan) self.old.progress event ≡ refused (refusal_number e)) }
     {
         if board.count() != self.plan.count() {
             return Err(Refusal::OtherCount);
