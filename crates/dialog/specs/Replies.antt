@@ -13,11 +13,13 @@ use Rattle.wording.specs.Faults.{refusal_text}
 use Rattle.wording.specs.Texts.{cost_text}
 use Rattle.wording.specs.declared.kinds.CostKind.{CostKind}
 
+-- the word of an event
 abbrev pub event_name : Event → List ℕ
 event_name Go = codes "go"
 event_name There = codes "there"
 event_name (Hand k) = codes "hand"
 
+-- the word of a state
 abbrev pub phase_name : Phase → List ℕ
 phase_name ArmTurn = codes "arm"
 phase_name Moving = codes "moving"
@@ -28,9 +30,11 @@ phase_name Ended = codes "ended"
 abbrev pub progress_text : CostKind → Progress (ℕ × ℕ) → List ℕ
 progress_text kind p = decimal p.position ++ (codes " " ++ (cost_text kind p.spent ++ (codes " " ++ (decimal p.made ++ (codes " " ++ phase_name p.phase)))))
 
+-- the run has begun
 abbrev pub begun_text : CostKind → Progress (ℕ × ℕ) → List ℕ
 begun_text kind p = codes "begin " ++ progress_text kind p
 
+-- the run was ended
 abbrev pub end_text : CostKind → Progress (ℕ × ℕ) → List ℕ
 end_text kind p = codes "end " ++ progress_text kind p
 
@@ -40,5 +44,6 @@ answer_text kind e p (Ok (Begins m)) = event_name e ++ (codes " " ++ (decimal m 
 answer_text kind e p (Ok Made) = event_name e ++ (codes " " ++ progress_text kind p)
 answer_text kind e p (Err x) = refusal_text x
 
+-- what an event was answered
 abbrev pub note_text : CostKind → Note → List ℕ
 note_text kind n = answer_text kind n.event n.progress n.answer

@@ -21,10 +21,11 @@ use Rattle.session.specs.declared.parts.Shown.{Shown}
 abbrev pub handed : {C : Type 0} → Kind C → Served C → Solved C
 handed k w = solved_by k w.plan.rounds w.plan.count w.plan.cells.now
 
--- the cost of the start is within the budget, over it, or none
+-- the cost of the start is within the budget
 abbrev pub StartWithin : {C : Type 0} → Kind C → Table → C → Solved C → Type 0
 StartWithin {C} k t budget s = (v : C) × (s.cost t.start ≡ Some v) × (k.leq v budget ≡ true)
 
+-- it is over the budget
 abbrev pub StartOver : {C : Type 0} → Kind C → Table → C → Solved C → Type 0
 StartOver {C} k t budget s = (v : C) × (s.cost t.start ≡ Some v) × (k.leq v budget ≡ false)
 
@@ -38,6 +39,7 @@ pub record Logged {C : Type 0} (k : Kind C) (t : Table) (budget : C) (s : Solved
   pub told_more : told' ≡ told ++ es
   pub log_more : log' ≡ log ++ run_log k t (length t.rows) s.move (begun k t t.start) es
 
+-- how a session ended: by the desk, with the log and the progress of the run for the events told; not begun, and nothing told or shown; or cut
 abbrev pub EndsAs : {C : Type 0} → Kind C → Table → C → Solved C → List Event → List Event → List Shown → List Shown → Type 0 → Type 0 → Ending → Type 0
 EndsAs k t budget s told told' log log' closed broken (Ended p) = (es : List Event) × Logged k t budget s told told' log log' es × (p ≡ numbered k (run_after k t s es)) × closed
 EndsAs k t budget s told told' log log' closed broken (NotBegun why) = Unbegun k t budget s why × (told' ≡ told) × (log' ≡ log)
