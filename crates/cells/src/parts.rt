@@ -1,7 +1,7 @@
 // What a solver keeps.
 
 /// A position's cell: its cost as two numbers or none, its chosen move or none, and the first round in which this cost stood.
-#[derive(Clone, Copy)]
+#[derive(Clone, Copy, Debug, Default, PartialEq)]
 pub struct Cell {
     pub cost: Option<(u32, u32)>,
     pub choice: Option<u32>,

@@ -21,7 +21,7 @@ pub enum Event {
 }
 
 /// How far a run has come: where it stands, what its moves cost, how many there were, and what it waits for.
-#[derive(Clone, Copy)]
+#[derive(Clone, Copy, Debug, PartialEq)]
 pub struct Progress<C> {
     pub position: u32,
     pub spent: C,
