@@ -14,6 +14,7 @@ pub fn numeral(word: &[u8]) -> Option<u64>
     if matches!(word, [] | [b'0', _, ..]) {
         return None;
     }
+    // kept: the loop ends at the first byte that is no digit, and a `try_fold` says it no plainer.
     let mut n: u64 = 0;
     for b in word {
         if !b.is_ascii_digit() {
