@@ -1,16 +1,10 @@
 -- What a line says.
-use Rattle.std.specs.Prelude.{◌≡◌, ℕ, ◌<◌, min, true, List, ◌++◌, length, codes, ◌≢◌, slice_index_or}
+use Rattle.std.specs.Prelude.{◌≡◌, ℕ, min, List, ◌++◌, codes, ◌≢◌}
 use Rattle.std.specs.Str.Parse.{digits_value}
-use Rattle.std.specs.Str.{all_ascii_digits}
 use Rattle.game.specs.declared.parts.Event.TheVariants.{Go, There, Hand}
 use Rattle.dialog.specs.declared.parts.Command.{Command}
 use Rattle.dialog.specs.declared.parts.Command.TheVariants.{Told, End, Unreadable}
-
--- decimal digits, the first no 0 (byte 48) unless it is alone
-pub record Numeral (w : List ℕ) : Type 0 where
-  pub digits : all_ascii_digits w ≡ true
-  pub some : 0 < length w
-  pub plain : slice_index_or w 0 0 ≡ 48 → length w ≡ 1
+use Rattle.words.specs.Numerals.{Numeral}
 
 -- a line that names a move of the person
 abbrev pub Hands : List ℕ → List ℕ → Type 0

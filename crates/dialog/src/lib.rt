@@ -1,7 +1,6 @@
 //! What is said to `follow`, and what it answers: one line each.
 #![tactic(auto)]
 
-mod numerals;
 mod parts;
 mod reading;
 mod replies;

@@ -1,51 +1,29 @@
 // Reading a line.
-ghost use Rattle.std.specs.Prelude.{◌≡◌, ℕ, List, ◌++◌, Decides, MatchOption, ◌≢◌};
-ghost use Rattle.dialog.specs.Commands.{Says};
+ghost use Rattle.std.specs.Prelude.{◌≡◌, ℕ, List, ◌++◌, min, MatchOption};
+ghost use Rattle.std.specs.Str.Parse.{digits_value};
+ghost use Rattle.dialog.specs.Commands.{Hands, Says};
 
-use crate::numerals::numeral;
 use crate::parts::Command;
 use game::Event;
+use words::numeral;
 
-// Whether a line is a word.
-fn is(line: &[u8], word: &[u8]) -> bool
-    ensures { Decides result (line.now ≡ word.now) }
+// The move of the person that a line names, or the greatest number of 32 bits where it is larger.
+fn hand(line: &[u8]) -> Option<u32>
+    ensures { MatchOption result ((w : List ℕ) → Hands line.now w → ⊥) (λ k. (w : List ℕ) × Hands line.now w × (k ≡ min (digits_value 10 w) 4294967295)) }
 {
-    line == word
-}
-
-// What follows the beginning of a line, if it begins so.
-fn after<'a>(line: &'a [u8], beginning: &[u8]) -> Option<&'a [u8]>
-    ensures { MatchOption result ((w : List ℕ) → line.now ≢ beginning.now ++ w) (λ w. line.now ≡ beginning.now ++ w.now) }
-{
-    let n = beginning.len();
-    if line.len() < n {
-        return None;
-    }
-    if is(&line[0..n], beginning) {
-        Some(&line[n..])
-    } else {
-        None
-    }
+    let word = line.strip_prefix(b"hand ")?;
+    let k = numeral(word)?;
+    Some(u32::try_from(k).unwrap_or(u32::MAX))
 }
 
 /// What a line, without its LF, says.
 pub fn command(line: &[u8]) -> Command
     ensures { Says line.now result }
 {
-    if is(line, b"go") {
-        return Command::Told(Event::Go);
-    }
-    if is(line, b"there") {
-        return Command::Told(Event::There);
-    }
-    if is(line, b"end") {
-        return Command::End;
-    }
-    match after(line, b"hand ") {
-        Some(word) => match numeral(word) {
-            Some(k) => Command::Told(Event::Hand(k)),
-            None => Command::Unreadable,
-        },
-        None => Command::Unreadable,
+    match line {
+        b"go" => Command::Told(Event::Go),
+        b"there" => Command::Told(Event::There),
+        b"end" => Command::End,
+        _ => hand(line).map_or(Command::Unreadable, |k| Command::Told(Event::Hand(k))),
     }
 }

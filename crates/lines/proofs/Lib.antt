@@ -1,5 +1,2 @@
-pub mod Marks
-pub mod Four
 pub mod Before
-pub mod Then
-pub mod Counted
+pub mod Marks

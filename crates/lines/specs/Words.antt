@@ -1,9 +1,7 @@
 -- The words of a line by their place.
-use Rattle.std.specs.Prelude.{◌≡◌, ℕ, ◌-◌, Bool, List, [], Some, None, Ok, Err, Option, Result, ◌==◌, ◌≢◌, slice_index_or}
+use Rattle.std.specs.Prelude.{ℕ, ◌-◌, Bool, List, [], Ok, Err, Result, ◌==◌, slice_index_or}
 use Rattle.sheet_format.specs.Cuts.{words}
 use Rattle.words.specs.declared.parts.Line.{Line}
-use Rattle.words.specs.declared.parts.Mark.{Mark}
-use Rattle.words.specs.Kinds.{mark_word}
 
 -- the word at a place, from 1; empty where there is none
 abbrev pub word_at : Line → ℕ → List ℕ
@@ -17,8 +15,3 @@ on_value f (Err e) = Err e
 -- the first of two words
 abbrev pub first_of_two : ℕ → Bool
 first_of_two k = k == 0
-
--- the mark that a word is
-abbrev pub MarkAt : List ℕ → Option Mark → Type 0
-MarkAt w None = (m : Mark) → w ≢ mark_word m
-MarkAt w (Some m) = w ≡ mark_word m

@@ -40,37 +40,23 @@ fn move_numbers(line: &Line<'_>, positions: u32) -> Result<Move, LineFault>
 fn last_start(moves: &[Move]) -> u32
     ensures { result ≡ last_from (reverse moves.now) }
 {
-    match moves.last() {
-        Some(m) => m.from,
-        None => 0,
-    }
+    moves.last().map_or(0, |m| m.from)
 }
 
 // How many of the moves start at `from`.
+#[tactic(auto, using(crate::proofs::Before::count_from_reverse))]
 fn count_starts(moves: &[Move], from: u32) -> usize
     ensures { result ≡ count_from from (reverse moves.now) }
 {
-    let mut n = 0;
-    for m in moves {
-        if m.from == from {
-            n += 1;
-        }
-    }
-    n
+    moves.iter().filter(|m| m.from == from).count()
 }
 
 // Whether the move is a person's and not free.
 fn is_paid_by_person(positions: &[Position], m: Move) -> bool
     ensures { result ≡ person_pays positions.now m }
 {
-    let from = m.from as usize;
-    if from >= positions.len() {
-        return false;
-    }
-    match positions[from].turn {
-        Turn::Arm => false,
-        Turn::Person => m.bruise > 0 || m.energy > 0,
-    }
+    positions.get(m.from as usize).is_some_and(|p| p.turn == Turn::Person
+        && (m.bruise > 0 || m.energy > 0))
 }
 
 // The move, if it may stand after those before it.
@@ -78,22 +64,13 @@ fn checked(positions: &[Position], before: &[Move], m: Move) -> Result<Move, Lin
     ensures { result ≡ move_checks positions.now (reverse before.now) m }
 {
     if m.from < last_start(before) {
-        return Err(LineFault {
-            refusal: Refusal::FromFalls,
-            word: 0,
-        });
+        return Err(fields::fault(Refusal::FromFalls, 0));
     }
     if count_starts(before, m.from) >= 64 {
-        return Err(LineFault {
-            refusal: Refusal::TooManyMoves,
-            word: 0,
-        });
+        return Err(fields::fault(Refusal::TooManyMoves, 0));
     }
     if is_paid_by_person(positions, m) {
-        return Err(LineFault {
-            refusal: Refusal::PersonPays,
-            word: 0,
-        });
+        return Err(fields::fault(Refusal::PersonPays, 0));
     }
     Ok(m)
 }
@@ -101,6 +78,7 @@ fn checked(positions: &[Position], before: &[Move], m: Move) -> Result<Move, Lin
 impl<'a> LineKind<Move> for MoveLines<'a> {
     ghost reading = { λ k. move_line k.positions.now };
 
+    #[tactic(auto, using(crate::proofs::Before::checked_line))]
     fn entry(&self, line: &Line<'_>, before: &[Move]) -> Result<Move, LineFault> {
         let m = move_numbers(line, self.positions.len() as u32)?;
         checked(self.positions, before, m)

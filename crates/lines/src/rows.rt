@@ -24,10 +24,7 @@ pub fn header_line(
     fields::section_name(line, name)?;
     let count = fields::number(line, 2, low, high)?;
     if count as usize > room {
-        return Err(LineFault {
-            refusal: Refusal::ShortTable,
-            word: 2,
-        });
+        return Err(fields::fault(Refusal::ShortTable, 2));
     }
     Ok(count)
 }

@@ -1,113 +1,120 @@
--- Steps over the bytes of a sheet and of a line.
-use Rattle.std.proofs.Common.{◌≡◌, ℕ, ◌+◌, ◌-◌, ◌<◌, ◌≤◌, false, List, [], ◌∷◌, ◌++◌, length, get_or, take, drop, Some, None, Option, sym, refl, ap, ◌∙◌, append_assoc, append-nil, arith, get_or-drop}
-use Rattle.std.proofs.lemmas.List.{take_more, drop_more, drop_all, length-drop, drop-drop, get_or_past, length-take-le}
-use Rattle.std.proofs.lemmas.Bool.{eq-eqb, ne_eqb, cond-true, cond-false, lt-ltb, le-ltb}
+-- The first line of a sheet, and the words of a line, by the place of the first LF or space.
+use Rattle.std.proofs.Common.{◌≡◌, ℕ, suc, ◌+◌, ◌-◌, ◌<◌, ◌≤◌, Bool, true, false, cond, eqb, ⊎_elim, List, [], ◌∷◌, length, get_or, take, drop, Some, None, Option, sym, refl, ap, ap₂, ◌∙◌, arith, get_or-drop}
+use Rattle.std.specs.List.{position, position_or_len, before_first, after_first, slice_range, slice_split, onto_first, count_by}
+use Rattle.std.specs.Option.{option_map_or}
+use Rattle.std.proofs.lemmas.List.{take_all, drop_all, length-drop, drop-drop, get_or_past, length-take-le}
+use Rattle.std.proofs.lemmas.List.Splits.{slice_split_first, slice_split_none, length-slice_split}
+use Rattle.std.proofs.lemmas.List.Sums.{fails_before_first}
+use Rattle.std.proofs.lemmas.Grind.{common_steps}
+use Rattle.std.proofs.lemmas.Bool.{cases_Bool, cond-true, cond-false, lt-ltb, le-ltb}
 use Rattle.sheet_format.specs.Cuts.{longer, first_line, in_front, words}
 use Rattle.words.specs.Parts.{LineTo, WordTo, WordFrom, words_after}
 
--- the part from one index up to another, and one byte more
-pub part_more : (s : List ℕ) (from i : ℕ) → from ≤ i → i < length s → take (i + 1 - from) (drop from s) ≡ take (i - from) (drop from s) ++ get_or s i 0 ∷ []
-part_more s from i low lt =
-    let one : i + 1 - from ≡ i - from + 1 = omega arith in
-    let inside : i - from < length (drop from s) = omega (arith, length-drop from s) in
-    let back : from + (i - from) ≡ i = omega arith in
-    ap (λ n. take n (drop from s)) one ∙ take_more (drop from s) (i - from) 0 inside ∙ ap (λ b. take (i - from) (drop from s) ++ b ∷ []) (get_or-drop from s (i - from) 0 ∙ ap (λ n. get_or s n 0) back)
+longer_part : (b : ℕ) (s : List ℕ) (k j : ℕ) → j ≡ suc k → longer b (Some (take k s, drop (k + 1) s)) ≡ Some (take j (b ∷ s), drop (j + 1) (b ∷ s))
+longer_part b s k j e =
+    let next : suc (k + 1) ≡ j + 1 = omega arith in
+    ap₂ (λ x y. Some (take x (b ∷ s), drop y (b ∷ s))) (sym e) next
 
--- bytes in front of a line
-abbrev pub longer_by : List ℕ → Option (List ℕ × List ℕ) → Option (List ℕ × List ℕ)
-longer_by p None = None
-longer_by p (Some x) = Some (p ++ x.0, x.1)
+-- the first line ends at the first LF
+first_found : (s : List ℕ) → position_or_len (λ b. eqb b 10) s < length s → first_line s ≡ Some (before_first (λ b. eqb b 10) s, after_first (λ b. eqb b 10) s)
+first_found [] h = absurd (omega arith)
+first_found (b ∷ s) h =
+    ⊎_elim (λ (e : eqb b 10 ≡ true). rw e refl) (λ (e : eqb b 10 ≡ false). let k = rw e at h in rw (e, first_found s (omega arith)) (longer_part b s _ _ (omega arith))) (cases_Bool (eqb b 10))
 
-longer_by_push : (p : List ℕ) (b : ℕ) (y : Option (List ℕ × List ℕ)) → longer_by p (longer b y) ≡ longer_by (p ++ b ∷ []) y
-longer_by_push p b None = refl
-longer_by_push p b (Some x) = ap (λ l. Some (l, x.1)) (sym (append_assoc p (b ∷ []) x.0))
+no_first : (s : List ℕ) → length s ≤ position_or_len (λ b. eqb b 10) s → first_line s ≡ None
+no_first [] h = refl
+no_first (b ∷ s) h =
+    ⊎_elim (λ (e : eqb b 10 ≡ true). let k = rw e at h in absurd (omega arith)) (λ (e : eqb b 10 ≡ false). let k = rw e at h in rw (e, no_first s (omega arith)) refl) (cases_Bool (eqb b 10))
 
-longer_by_none : (y : Option (List ℕ × List ℕ)) → longer_by [] y ≡ y
-longer_by_none None = refl
-longer_by_none (Some x) = refl
+-- the words are the parts between spaces
+front_or_first : (t : Bool) (b : ℕ) (ws : List (List ℕ)) → 0 < length ws → in_front t b ws ≡ cond t ([] ∷ ws) (onto_first b ws)
+front_or_first true b ws h = refl
+front_or_first false b [] h = absurd (omega arith)
+front_or_first false b (w ∷ ws) h = refl
 
--- the line from `from` has been read up to i
-abbrev pub LineSoFar : List ℕ → ℕ → ℕ → Type 0
-LineSoFar s from i = first_line (drop from s) ≡ longer_by (take (i - from) (drop from s)) (first_line (drop i s))
+pub words_is : (l : List ℕ) → words l ≡ slice_split (λ b. eqb b 32) l
+words_is [] = refl
+words_is (b ∷ l) =
+    ap (in_front (eqb b 32) b) (words_is l) ∙ front_or_first (eqb b 32) b (slice_split (λ b. eqb b 32) l) (omega (arith, length-slice_split (λ b. eqb b 32) l))
 
-pub line_begins : (s : List ℕ) (from : ℕ) → LineSoFar s from from
-line_begins s from =
-    let none : from - from ≡ 0 = omega arith in
-    sym (ap (λ n. longer_by (take n (drop from s)) (first_line (drop from s))) none ∙ longer_by_none (first_line (drop from s)))
+pub length_words : (l : List ℕ) → length (words l) ≡ count_by (λ b. eqb b 32) l + 1
+length_words l = ap length (words_is l) ∙ length-slice_split (λ b. eqb b 32) l
 
-pub line_goes_on : (s : List ℕ) (from i : ℕ) → from ≤ i → i < length s → (get_or s i 0 ≡ 10 → ⊥) → LineSoFar s from i → LineSoFar s from (i + 1)
-line_goes_on s from i low lt other h =
-    let here : first_line (drop i s) ≡ longer (get_or s i 0) (first_line (drop (i + 1) s)) = ap first_line (drop_more s i 0 lt) ∙ cond-false _ _ _ (ne_eqb _ 10 other) in
-    h ∙ ap (longer_by (take (i - from) (drop from s))) here ∙ longer_by_push (take (i - from) (drop from s)) (get_or s i 0) (first_line (drop (i + 1) s)) ∙ ap (λ p. longer_by p (first_line (drop (i + 1) s))) (sym (part_more s from i low lt))
+place_some : {X : Type 0} (p : X → Bool) (xs : List X) (n : ℕ) → position p xs ≡ Some n → (position_or_len p xs ≡ n) × (n < length xs)
+place_some p xs n e = grind (arith, common_steps)
 
-pub line_ends : (s : List ℕ) (from i : ℕ) → i < length s → get_or s i 0 ≡ 10 → LineSoFar s from i → first_line (drop from s) ≡ Some (take (i - from) (drop from s), drop (i + 1) s)
-line_ends s from i lt lf h =
-    let here : first_line (drop i s) ≡ Some ([], drop (i + 1) s) = ap first_line (drop_more s i 0 lt) ∙ cond-true _ _ _ (eq-eqb _ 10 lf) in
-    h ∙ ap (longer_by (take (i - from) (drop from s))) here ∙ ap (λ p. Some (p, drop (i + 1) s)) (append-nil (take (i - from) (drop from s)))
+place_none : {X : Type 0} (p : X → Bool) (xs : List X) → position p xs ≡ None → length xs ≤ position_or_len p xs
+place_none p xs e = grind (arith, common_steps)
 
-pub line_unended : (s : List ℕ) (from i : ℕ) → length s ≤ i → LineSoFar s from i → first_line (drop from s) ≡ None
-line_unended s from i past h = h ∙ ap (λ l. longer_by (take (i - from) (drop from s)) (first_line l)) (drop_all i s past)
+-- a part, and what stands after it and one byte more
+part_is : (s : List ℕ) (from n k : ℕ) → k ≡ n → take k (drop from s) ≡ take (from + n - from) (drop from s)
+part_is s from n k e = ap (λ i. take i (drop from s)) (omega arith)
 
--- bytes in front of the first of some words
-abbrev pub fronted : List ℕ → List (List ℕ) → List (List ℕ)
-fronted p [] = []
-fronted p (w ∷ ws) = (p ++ w) ∷ ws
+rest_is : (s : List ℕ) (from n k : ℕ) → k ≡ n → drop (k + 1) (drop from s) ≡ drop (from + n + 1) s
+rest_is s from n k e = drop-drop (k + 1) from s ∙ ap (λ i. drop i s) (omega arith)
 
-fronted_push : (p : List ℕ) (b : ℕ) (ws : List (List ℕ)) → fronted p (in_front false b ws) ≡ fronted (p ++ b ∷ []) ws
-fronted_push p b [] = refl
-fronted_push p b (w ∷ ws) = ap (λ v. v ∷ ws) (sym (append_assoc p (b ∷ []) w))
+rest_whole : (s : List ℕ) (from : ℕ) → slice_range s from (length s) ≡ drop from s
+rest_whole s from = take_all (length s - from) (drop from s) (omega (arith, length-drop from s))
 
-fronted_none : (ws : List (List ℕ)) → fronted [] ws ≡ ws
-fronted_none [] = refl
-fronted_none (w ∷ ws) = refl
+-- the word from an index ends at the first space after it
+pub word_found : (l : List ℕ) (from n : ℕ) → from ≤ length l → position (λ b. eqb b 32) (drop from l) ≡ Some n → WordTo l from (from + n)
+word_found l from n low e =
+    let p = place_some (λ b. eqb b 32) (drop from l) n e in
+    record {
+      low = omega arith;
+      high = omega (arith, length-drop from l);
+      cut =
+          words_is (drop from l) ∙ slice_split_first (λ b. eqb b 32) (drop from l) 0 (omega arith)
+          ∙ ap₂ (λ w ws. w ∷ ws) (part_is l from n _ p.0) (ap (slice_split (λ b. eqb b 32)) (rest_is l from n _ p.0) ∙ sym (cond-true _ _ _ (lt-ltb (from + n) (length l) (omega (arith, length-drop from l))) ∙ words_is (drop (from + n + 1) l)));
+    }
 
-pub words_space : (l : List ℕ) (i : ℕ) → i < length l → get_or l i 0 ≡ 32 → words (drop i l) ≡ [] ∷ words (drop (i + 1) l)
-words_space l i lt space = ap words (drop_more l i 0 lt) ∙ ap (λ t. in_front t (get_or l i 0) (words (drop (i + 1) l))) (eq-eqb _ 32 space)
-
-pub words_other : (l : List ℕ) (i : ℕ) → i < length l → (get_or l i 0 ≡ 32 → ⊥) → words (drop i l) ≡ in_front false (get_or l i 0) (words (drop (i + 1) l))
-words_other l i lt other = ap words (drop_more l i 0 lt) ∙ ap (λ t. in_front t (get_or l i 0) (words (drop (i + 1) l))) (ne_eqb _ 32 other)
-
-pub words_end : (l : List ℕ) (i : ℕ) → length l ≤ i → words (drop i l) ≡ [] ∷ []
-words_end l i past = ap words (drop_all i l past)
-
--- the word from `from` has been read up to i
-abbrev pub WordSoFar : List ℕ → ℕ → ℕ → Type 0
-WordSoFar l from i = words (drop from l) ≡ fronted (take (i - from) (drop from l)) (words (drop i l))
-
-pub word_begins : (l : List ℕ) (from : ℕ) → WordSoFar l from from
-word_begins l from =
-    let none : from - from ≡ 0 = omega arith in
-    sym (ap (λ n. fronted (take n (drop from l)) (words (drop from l))) none ∙ fronted_none (words (drop from l)))
-
-pub word_goes_on : (l : List ℕ) (from i : ℕ) → from ≤ i → i < length l → (get_or l i 0 ≡ 32 → ⊥) → WordSoFar l from i → WordSoFar l from (i + 1)
-word_goes_on l from i low lt other h =
-    h ∙ ap (fronted (take (i - from) (drop from l))) (words_other l i lt other) ∙ fronted_push (take (i - from) (drop from l)) (get_or l i 0) (words (drop (i + 1) l)) ∙ ap (λ p. fronted p (words (drop (i + 1) l))) (sym (part_more l from i low lt))
-
-pub word_ends : (l : List ℕ) (from i : ℕ) → from ≤ i → i < length l → get_or l i 0 ≡ 32 → WordSoFar l from i → WordTo l from i
-word_ends l from i low lt space h = record {
+-- or with the line
+pub word_whole : (l : List ℕ) (from : ℕ) → from ≤ length l → position (λ b. eqb b 32) (drop from l) ≡ None → WordTo l from (length l)
+word_whole l from low e = record {
   low = low;
   high = omega arith;
-  cut = h ∙ ap (fronted (take (i - from) (drop from l))) (words_space l i lt space) ∙ ap (λ w. w ∷ words (drop (i + 1) l)) (append-nil (take (i - from) (drop from l))) ∙ ap (λ ws. take (i - from) (drop from l) ∷ ws) (sym (cond-true _ _ _ (lt-ltb i (length l) lt)));
+  cut =
+      words_is (drop from l) ∙ slice_split_none (λ b. eqb b 32) (drop from l) (λ k d lt. fails_before_first (λ b. eqb b 32) (drop from l) k d (omega (arith, place_none (λ b. eqb b 32) (drop from l) e)))
+      ∙ sym (ap₂ (λ w ws. w ∷ ws) (rest_whole l from) (cond-false _ _ _ (le-ltb (length l) (length l) (omega arith))));
 }
 
-pub word_last : (l : List ℕ) (from i : ℕ) → from ≤ i → i ≤ length l → length l ≤ i → WordSoFar l from i → WordTo l from i
-word_last l from i low high past h = record {
-  low = low;
-  high = high;
-  cut = h ∙ ap (fronted (take (i - from) (drop from l))) (words_end l i past) ∙ ap (λ w. w ∷ []) (append-nil (take (i - from) (drop from l))) ∙ ap (λ ws. take (i - from) (drop from l) ∷ ws) (sym (cond-false _ _ _ (le-ltb i (length l) past)));
-}
+pub word_end_is : (l : List ℕ) (from r : ℕ) → from ≤ length l → r ≡ option_map_or (λ n. from + n) (position (λ b. eqb b 32) (slice_range l from (length l))) (length l) → WordTo l from r
+word_end_is l from r low e = rw e (go (position (λ b. eqb b 32) (slice_range l from (length l))) refl)
+  where
+    go : (o : Option ℕ) → position (λ b. eqb b 32) (slice_range l from (length l)) ≡ o → WordTo l from (option_map_or (λ n. from + n) o (length l))
+    go None e = word_whole l from low (rw (rest_whole l from) at e)
+    go (Some n) e = word_found l from n low (rw (rest_whole l from) at e)
+
+-- the line from an index ends at the first LF after it
+pub line_found : (s : List ℕ) (from n : ℕ) (rest : List ℕ) → from ≤ length s → rest ≡ slice_range s from (length s) → Some n ≡ position (λ b. eqb b 10) rest → LineTo s from (Some (from + n))
+line_found s from n rest low r f =
+    let e : position (λ b. eqb b 10) (drop from s) ≡ Some n = ap (position (λ b. eqb b 10)) (sym (r ∙ rest_whole s from)) ∙ sym f in
+    let p = place_some (λ b. eqb b 10) (drop from s) n e in
+    let long : length (take (from + n - from) (drop from s)) ≡ n = length-take-le (from + n - from) (drop from s) (omega (arith, length-drop from s)) ∙ omega arith in (
+      omega arith,
+      omega (arith, length-drop from s),
+      record {
+        first = first_found (drop from s) (omega arith) ∙ ap₂ (λ l r. Some (l, r)) (part_is s from n _ p.0) (rest_is s from _ _ (p.0 ∙ sym long));
+        part = ap (λ k. take k (drop from s)) (omega arith);
+        within = omega (arith, length-drop from s);
+      },
+    )
+
+pub line_unended : (s : List ℕ) (from : ℕ) (rest : List ℕ) → rest ≡ slice_range s from (length s) → None ≡ position (λ b. eqb b 10) rest → first_line (drop from s) ≡ None
+line_unended s from rest r f =
+    no_first (drop from s) (place_none (λ b. eqb b 10) (drop from s) (ap (position (λ b. eqb b 10)) (sym (r ∙ rest_whole s from)) ∙ sym f))
 
 -- k words have been passed, and the next begins at an index
 abbrev pub Passed : List ℕ → ℕ → ℕ → Type 0
 Passed l k at = words (drop at l) ≡ drop k (words l)
 
-pub pass_one : (l : List ℕ) (k at end : ℕ) → Passed l k at → WordTo l at end → end < length l → Passed l (k + 1) (end + 1)
-pass_one l k at end h w lt =
+pub pass_one : (l : List ℕ) (k j at end : ℕ) → Passed l k at → WordTo l at end → end < length l → j ≡ k + 1 → Passed l j (end + 1)
+pass_one l k j at end h w lt e =
     let rest : words_after l end ≡ words (drop (end + 1) l) = cond-true _ _ _ (lt-ltb end (length l) lt) in
-    sym rest ∙ ap (drop 1) (sym w.cut ∙ h) ∙ drop-drop 1 k (words l)
+    rw e (sym rest ∙ ap (drop 1) (sym w.cut ∙ h) ∙ drop-drop 1 k (words l))
 
-pub first_passed : (l : List ℕ) (k at : ℕ) → at ≤ length l → Passed l k at → WordFrom l k at
-first_passed l k at high h = record {
+pub first_passed : (l : List ℕ) (k j at : ℕ) → at ≤ length l → Passed l k at → j ≡ k → WordFrom l j at
+first_passed l k j at high h e = record {
   within = high;
   first = ap (λ ws. get_or ws 0 []) h ∙ get_or-drop k (words l) 0 [] ∙ ap (λ n. get_or (words l) n []) (omega arith);
 }
@@ -119,45 +126,5 @@ none_left l k at end place h w past lt =
     let one : length (drop k (words l)) ≡ 1 = ap length (sym h ∙ w.cut ∙ ap (λ ws. take (end - at) (drop at l) ∷ ws) rest) in
     record {
       within = w.high;
-      first = ap (λ ws. get_or ws 0 []) (words_end l end past) ∙ sym (get_or_past (words l) place [] (omega (arith, length-drop k (words l))));
+      first = ap (λ ws. get_or (words ws) 0 []) (drop_all end l past) ∙ sym (get_or_past (words l) place [] (omega (arith, length-drop k (words l))));
     }
-
--- a line from its start up to its LF
-pub line_part : (s : List ℕ) (start end : ℕ) → start ≤ end → end < length s → first_line (drop start s) ≡ Some (take (end - start) (drop start s), drop (end + 1) s) → LineTo s start (Some end)
-line_part s start end low high h =
-    let long : length (take (end - start) (drop start s)) ≡ end - start = length-take-le (end - start) (drop start s) (omega (arith, length-drop start s)) in
-    let stop : end + 1 ≡ start + length (take (end - start) (drop start s)) + 1 = omega arith in (
-      low,
-      high,
-      record {
-        first = h ∙ ap (λ k. Some (take (end - start) (drop start s), drop k s)) stop;
-        part = ap (λ k. take k (drop start s)) (sym long);
-        within = omega arith;
-      },
-    )
-
--- how many words a line has, from those that are left
-pub words_pass_space : (l : List ℕ) (i n : ℕ) → i < length l → get_or l i 0 ≡ 32 → n + length (words (drop i l)) ≡ length (words l) → n + 1 + length (words (drop (i + 1) l)) ≡ length (words l)
-words_pass_space l i n lt space h = omega (arith, h, ap length (words_space l i lt space))
-
-length_in_front : (b : ℕ) (ws : List (List ℕ)) → length (in_front false b ws) ≡ length ws
-length_in_front b [] = refl
-length_in_front b (w ∷ ws) = refl
-
-pub words_pass_other : (l : List ℕ) (i n : ℕ) → i < length l → (get_or l i 0 ≡ 32 → ⊥) → n + length (words (drop i l)) ≡ length (words l) → n + length (words (drop (i + 1) l)) ≡ length (words l)
-words_pass_other l i n lt other h =
-    omega (arith, h, ap length (words_other l i lt other) ∙ length_in_front (get_or l i 0) (words (drop (i + 1) l)))
-
--- a word that was cut out, as a part of its line
-pub word_cut : (l : List ℕ) (k from end : ℕ) → WordFrom l k from → WordTo l from end → take (end - from) (drop from l) ≡ get_or (words l) k []
-word_cut l k from end a b = sym (ap (λ ws. get_or ws 0 []) b.cut) ∙ a.first
-
-pub part_of_itself : (l : List ℕ) (from end : ℕ) → WordTo l from end → take (end - from) (drop from l) ≡ take (length (take (end - from) (drop from l))) (drop from l)
-part_of_itself l from end w =
-    ap (λ n. take n (drop from l)) (sym (length-take-le (end - from) (drop from l) (omega (arith, length-drop from l, w.low, w.high))))
-
--- a word of one byte
-pub one_byte : (w : List ℕ) (b : ℕ) → length w ≡ 1 → get_or w 0 0 ≡ b → w ≡ b ∷ []
-one_byte [] b long is = absurd (omega arith)
-one_byte (a ∷ []) b long is = ap (λ x. x ∷ []) is
-one_byte (a ∷ a' ∷ w) b long is = absurd (omega arith)

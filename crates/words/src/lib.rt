@@ -5,4 +5,5 @@ mod lines;
 mod numbers;
 mod parts;
 
+pub use numbers::numeral;
 pub use parts::{Line, Mark, PlacedWord, Word};

@@ -1,40 +1,38 @@
 // The lines of a sheet, and the words of a line.
-ghost use Rattle.std.specs.Prelude.{◌≡◌, ℕ, ◌+◌, ◌-◌, ◌≤◌, Bool, length, ◌==◌};
+ghost use Rattle.std.specs.Prelude.{◌≡◌, ℕ, ◌+◌, ◌-◌, ◌≤◌, Bool, length, ◌==◌, count_by, position};
 ghost use Rattle.sheet_format.specs.Cuts.{words};
 ghost use Rattle.words.specs.Parts.{LineTo, FirstLine, WordTo, WordFrom, WordAt};
 
 use crate::parts::{Line, PlacedWord, Word};
 
+// The place of the first such byte, from 0.
+fn place_of(bytes: &[u8], byte: u8) -> Option<usize>
+    ensures { result ≡ position (λ b. b == byte) bytes.now }
+{
+    bytes.iter().position(|b| *b == byte)
+}
+
 // Where the line that begins at `from` ends, if it has an LF.
 fn line_end(sheet: &[u8], from: usize) -> Option<usize>
     ensures { LineTo sheet.now from result }
 {
-    let mut i = from;
-    while i < sheet.len() {
-        if sheet[i] == 10 {
-            return Some(i);
-        }
-        i += 1;
-    }
-    None
+    let rest = sheet.get(from..)?;
+    let length = place_of(rest, b'\n')?;
+    Some(from + length)
 }
 
 // Where the word that begins at `from` ends: at a space, or with the line.
+#[tactic(auto, using(crate::proofs::Cutting::word_end_is))]
 fn word_end(line: &[u8], from: usize) -> usize
     requires { from ≤ length line.now }
     ensures { WordTo line.now from result }
 {
-    let mut i = from;
-    while i < line.len() {
-        if line[i] == 32 {
-            return i;
-        }
-        i += 1;
-    }
-    i
+    place_of(&line[from..], b' ').map_or(line.len(), |length| from + length)
 }
 
 // Where a word begins, by its place from 1; the line's end where it has fewer words.
+// kept: a `split` gives the word's bytes, but not its column.
+#[tactic(auto, using(crate::proofs::Cutting::pass_one, crate::proofs::Cutting::first_passed, crate::proofs::Cutting::none_left))]
 fn word_start(line: &[u8], place: usize) -> usize
     ensures { WordFrom line.now (place - 1) result }
 {
@@ -51,15 +49,9 @@ fn word_start(line: &[u8], place: usize) -> usize
 
 // How many spaces a line has: one fewer than words.
 fn count_spaces(line: &[u8]) -> usize
-    ensures { result + 1 ≡ length (words line.now) }
+    ensures { result ≡ count_by (λ b. b == 32) line.now }
 {
-    let mut spaces = 0;
-    for b in line {
-        if *b == 32 {
-            spaces += 1;
-        }
-    }
-    spaces
+    line.iter().filter(|b| **b == b' ').count()
 }
 
 impl<'a> Line<'a> {
@@ -67,22 +59,20 @@ impl<'a> Line<'a> {
     pub fn first(sheet: &'a [u8], start: usize, number: usize) -> Option<Line<'a>>
         ensures { FirstLine sheet.now start number result }
     {
-        match line_end(sheet, start) {
-            Some(end) => Some(Line {
-                bytes: &sheet[start..end],
-                number,
-                start,
-            }),
-            None => None,
-        }
+        let end = line_end(sheet, start)?;
+        Some(Line {
+            bytes: &sheet[start..end],
+            number,
+            start,
+        })
     }
 
     /// Whether the line has just `n` words.
+    #[tactic(auto, using(crate::proofs::Cutting::length_words))]
     pub fn has_words(&self, n: usize) -> bool
         ensures { result ≡ (length (words self.now.bytes.now) == n) }
     {
-        let spaces = count_spaces(self.bytes);
-        n > 0 && spaces == n - 1
+        count_spaces(self.bytes) + 1 == n
     }
 
     /// The word at a place, from 1; an empty name where the line has fewer words.

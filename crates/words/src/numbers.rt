@@ -1,43 +1,51 @@
 // What a word says.
-ghost use Rattle.std.specs.Prelude.{◌≡◌, ℕ, MatchOption, ◌≢◌};
+ghost use Rattle.std.specs.Prelude.{◌≡◌, ℕ, min, MatchOption, ◌≢◌};
+ghost use Rattle.std.specs.Str.Parse.{digits_value};
 ghost use Rattle.words.specs.Kinds.{mark_word, number_word, Says, word_bytes};
+ghost use Rattle.words.specs.Numerals.{Numeral};
 
 use crate::parts::{Mark, Word};
+
+/// The value of a numeral, or the greatest number of 64 bits where it is larger.
+#[tactic(auto, using(crate::proofs::Digits::other_byte))]
+pub fn numeral(word: &[u8]) -> Option<u64>
+    ensures { MatchOption result (Numeral word.now → ⊥) (λ k. Numeral word.now × (k ≡ min (digits_value 10 word.now) 18446744073709551615)) }
+{
+    if matches!(word, [] | [b'0', _, ..]) {
+        return None;
+    }
+    // kept: the loop ends at the first byte that is no digit, and a `try_fold` says it no plainer.
+    let mut n: u64 = 0;
+    for b in word {
+        if !b.is_ascii_digit() {
+            return None;
+        }
+        n = n.saturating_mul(10).saturating_add(u64::from(*b - b'0'));
+    }
+    Some(n)
+}
 
 // The value of a number word.
 fn number(word: &[u8]) -> Option<u64>
     ensures { result ≡ number_word word.now }
 {
-    if word.len() == 0 || word.len() > 10 {
+    if word.len() > 10 {
         return None;
     }
-    if word[0] == 48 && word.len() > 1 {
-        return None;
-    }
-    let mut n: u64 = 0;
-    for b in word {
-        if *b < 48 || *b > 57 {
-            return None;
-        }
-        n = n * 10 + (*b - 48) as u64;
-    }
-    Some(n)
+    numeral(word)
 }
 
 // The mark that a word is.
 fn mark(word: &[u8]) -> Option<Mark>
     ensures { MatchOption result ((m : Mark) → word.now ≢ mark_word m) (λ m. word.now ≡ mark_word m) }
 {
-    if word.len() != 1 {
-        return None;
-    }
-    match word[0] {
-        b'a' => Some(Mark::Arm),
-        b'p' => Some(Mark::Person),
-        b'r' => Some(Mark::Rests),
-        b'-' => Some(Mark::Moves),
-        b'y' => Some(Mark::Accepts),
-        b'n' => Some(Mark::Rejects),
+    match word {
+        b"a" => Some(Mark::Arm),
+        b"p" => Some(Mark::Person),
+        b"r" => Some(Mark::Rests),
+        b"-" => Some(Mark::Moves),
+        b"y" => Some(Mark::Accepts),
+        b"n" => Some(Mark::Rejects),
         _ => None,
     }
 }
@@ -61,9 +69,7 @@ impl<'a> Word<'a> {
         ensures { result.now ≡ word_bytes self.entry }
     {
         match self {
-            Word::Number(_, bytes) => bytes,
-            Word::Mark(_, bytes) => bytes,
-            Word::Name(bytes) => bytes,
+            Word::Number(_, bytes) | Word::Mark(_, bytes) | Word::Name(bytes) => bytes,
         }
     }
 }

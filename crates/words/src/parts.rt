@@ -1,7 +1,7 @@
 // What a sheet is cut into.
 
 /// A word of one byte that stands for a choice.
-#[derive(Clone, Copy)]
+#[derive(Clone, Copy, PartialEq)]
 pub enum Mark {
     /// `a`: the arm's turn.
     Arm,

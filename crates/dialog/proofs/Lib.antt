@@ -1,2 +1,0 @@
-pub mod Beginnings
-pub mod Capped
