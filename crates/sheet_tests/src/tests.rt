@@ -1,6 +1,6 @@
 // Each table has four entries, which hold something else before a sheet is read.
 use board::Turn;
-use entries::{Arrow, Move, Position, PositionEntry, Rule, Start};
+use entries::{Arrow, Move, PositionEntry, Rule, Start};
 use refusal::Refusal;
 use sheet::{Outline, read};
 use sheet_format::Fault;
@@ -37,48 +37,14 @@ const WHOLE: Room = Room {
     rules: 4,
 };
 
-fn entry(turn: Turn, rests: bool, label: u32, first: u32, degree: u32) -> PositionEntry {
-    PositionEntry {
-        position: Position { turn, rests, label },
-        first,
-        degree,
-    }
-}
-
-fn go(from: u32, to: u32, bruise: u32, energy: u32) -> Move {
-    Move {
-        from,
-        to,
-        bruise,
-        energy,
-    }
-}
-
-fn arrow(from: u32, need: u32, bar: u32, to: u32) -> Arrow {
-    Arrow {
-        from,
-        need,
-        bar,
-        to,
-    }
-}
-
 // what the tables hold before
 fn before() -> Tables {
     Tables {
-        positions: [entry(Turn::Person, true, 77, 78, 79); 4],
-        moves: [go(71, 72, 73, 74); 4],
+        positions: [PositionEntry::new(Turn::Person, true, 77, 78, 79); 4],
+        moves: [Move::new(71, 72, 73, 74); 4],
         states: [true, false, true, false],
-        arrows: [arrow(61, 62, 63, 64); 4],
+        arrows: [Arrow::new(61, 62, 63, 64); 4],
         rules: [Rule::After(51, 52); 4],
-    }
-}
-
-fn front<T>(table: &mut [T], n: usize) -> &mut [T] {
-    if n <= table.len() {
-        &mut table[0..n]
-    } else {
-        table
     }
 }
 
@@ -186,16 +152,16 @@ fn after() -> Tables {
     let old = before();
     Tables {
         positions: [
-            entry(Turn::Arm, false, 1, 0, 2),
-            entry(Turn::Arm, true, 65535, 2, 0),
-            entry(Turn::Person, false, 2, 2, 1),
+            PositionEntry::new(Turn::Arm, false, 1, 0, 2),
+            PositionEntry::new(Turn::Arm, true, 65535, 2, 0),
+            PositionEntry::new(Turn::Person, false, 2, 2, 1),
             old.positions[3],
         ],
-        moves: [go(0, 1, 5, 1), go(0, 2, 0, 3), go(2, 1, 0, 0), old.moves[3]],
+        moves: [Move::new(0, 1, 5, 1), Move::new(0, 2, 0, 3), Move::new(2, 1, 0, 0), old.moves[3]],
         states: [false, true, old.states[2], old.states[3]],
         arrows: [
-            arrow(1, 4, 0, 0),
-            arrow(0, 2, 4, 1),
+            Arrow::new(1, 4, 0, 0),
+            Arrow::new(0, 2, 4, 1),
             old.arrows[2],
             old.arrows[3],
         ],
