@@ -22,41 +22,42 @@ impl<'a> Reader<'a> {
         self.line += 1;
         Ok(line)
     }
-}
 
-// What a function reads of the line that is due, or its fault with the line's number.
-pub(crate) fn read_line<'a, T, F: FnOnce(&Line<'a>) -> Result<T, LineFault>>(
-    reader: &mut Reader<'a>,
-    read: F,
-) -> Result<T, Fault>
-    requires { F.IsAlwaysCallable read }
-    ensures { (f : LineReading T) → Reads (FnOnceReturnsAt F.FnOnce read) f → Takes (next_line f) reader.old reader.new result }
-{
-    let line = reader.next_line()?;
-    read(&line).map_err(|e| Fault {
-        refusal: e.refusal,
-        line: line.number,
-        word: e.word,
-    })
-}
-
-// A section: its header, then an entry for each line, written to the front of a table.
-pub(crate) fn read_section<'a, E: Copy, K: LineKind<E>>(
-    reader: &mut Reader<'a>,
-    kind: &K,
-    name: &[u8],
-    low: u32,
-    high: u32,
-    room: usize,
-    table: &mut [E],
-) -> Result<usize, Fault>
-    requires { high ≤ length table.old }
-    ensures { TakesInto (section name.now low high room (K.reading kind.now)) high reader.old reader.new table.new result }
-{
-    let count = read_line(reader, |line| header_line(line, name, low, high, room))? as usize;
-    for i in 0..count {
-        let before = &table[..i];
-        table[i] = read_line(reader, |line| kind.entry(line, before))?;
+    // What a function reads of the line that is due, or its fault with the line's number.
+    pub(crate) fn read_line<T, F: FnOnce(&Line<'a>) -> Result<T, LineFault>>(
+        &mut self,
+        read: F,
+    ) -> Result<T, Fault>
+        requires { F.IsAlwaysCallable read }
+        ensures { (f : LineReading T) → Reads (FnOnceReturnsAt F.FnOnce read) f → Takes (next_line f) self.old self.new result }
+    {
+        let line = self.next_line()?;
+        read(&line).map_err(|e| Fault {
+            refusal: e.refusal,
+            line: line.number,
+            word: e.word,
+        })
     }
-    Ok(count)
+
+    // kept: the name, the limits and the room stand apart, since `header_line` takes them so.
+    // A section: its header, then an entry for each line, written to the front of a table.
+    pub(crate) fn read_section<E: Copy, K: LineKind<E>>(
+        &mut self,
+        kind: &K,
+        name: &[u8],
+        low: u32,
+        high: u32,
+        room: usize,
+        table: &mut [E],
+    ) -> Result<usize, Fault>
+        requires { high ≤ length table.old }
+        ensures { TakesInto (section name.now low high room (K.reading kind.now)) high self.old self.new table.new result }
+    {
+        let count = self.read_line(|line| header_line(line, name, low, high, room))? as usize;
+        for i in 0..count {
+            let before = &table[..i];
+            table[i] = self.read_line(|line| kind.entry(line, before))?;
+        }
+        Ok(count)
+    }
 }

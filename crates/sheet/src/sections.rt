@@ -3,7 +3,6 @@ ghost use Rattle.std.specs.Prelude.{◌≡◌};
 ghost use Rattle.sheet_format.specs.Read.{most_arrows, read_sections};
 ghost use Rattle.sheet.specs.Sections.{room_of, TakesSheet};
 
-use crate::cursor::{read_line, read_section};
 use crate::parts::{Capacity, Lists, Outline};
 use crate::reader::Reader;
 use lines::{ArrowLines, MoveLines, PositionLines, RuleLines, StateLines, header_line, start_line};
@@ -24,8 +23,7 @@ pub(crate) fn read_sections<'a>(
 ) -> Result<Outline, Fault>
     ensures { TakesSheet (read_sections (room_of room)) reader.old reader.new lists.new result }
 {
-    let n = read_section(
-        reader,
+    let n = reader.read_section(
         &PositionLines,
         b"positions",
         1,
@@ -36,17 +34,8 @@ pub(crate) fn read_sections<'a>(
     let between = MoveLines {
         positions: &lists.positions[..n],
     };
-    let m = read_section(
-        reader,
-        &between,
-        b"moves",
-        0,
-        4096,
-        room.moves,
-        &mut lists.moves,
-    )?;
-    let s = read_section(
-        reader,
+    let m = reader.read_section(&between, b"moves", 0, 4096, room.moves, &mut lists.moves)?;
+    let s = reader.read_section(
         &StateLines,
         b"states",
         0,
@@ -56,26 +45,10 @@ pub(crate) fn read_sections<'a>(
     )?;
     let kind = ArrowLines { states: s as u32 };
     let most = most_arrows(s);
-    let a = read_section(
-        reader,
-        &kind,
-        b"arrows",
-        0,
-        most,
-        room.arrows,
-        &mut lists.arrows,
-    )?;
-    let r = read_section(
-        reader,
-        &RuleLines,
-        b"rules",
-        0,
-        5,
-        room.rules,
-        &mut lists.rules,
-    )?;
-    read_line(reader, |line| header_line(line, b"start", 1, 1, 1))?;
-    let start = read_line(reader, |line| start_line(line, n as u32))?;
+    let a = reader.read_section(&kind, b"arrows", 0, most, room.arrows, &mut lists.arrows)?;
+    let r = reader.read_section(&RuleLines, b"rules", 0, 5, room.rules, &mut lists.rules)?;
+    reader.read_line(|line| header_line(line, b"start", 1, 1, 1))?;
+    let start = reader.read_line(|line| start_line(line, n as u32))?;
     Ok(Outline {
         positions: n,
         moves: m,

@@ -1,6 +1,6 @@
 use Rattle.std.proofs.Common.{rules}
 use Rattle.std.specs.Fn.{FnOnceReturnsAt}
-use Rattle.sheet.proofs.cursor.read_line.Goals as goal
+use Rattle.sheet.proofs.reader.Reader.read_line.Goals as goal
 
 pub returns : goal.returns
 returns g c = λ f reads.
