@@ -1,7 +1,7 @@
 // Reading line by line.
 ghost use Rattle.std.specs.Prelude.{◌≡◌, ℕ, ◌≤◌, List, reverse, length};
 ghost use Rattle.std.specs.Fn.{FnOnceReturnsAt};
-ghost use Rattle.sheet_format.specs.Reading.{LineReading, next_line, header, section};
+ghost use Rattle.sheet_format.specs.Reading.{LineReading, fault, next_line, header, section};
 ghost use Rattle.sheet.specs.Takes.{NextLine, Reads, Takes, TakesInto};
 
 use crate::parts::fault;
@@ -10,6 +10,17 @@ use lines::{LineKind, header_line};
 use refusal::Refusal;
 use sheet_format::{Fault, LineFault};
 use words::Line;
+
+// A fault within a line, with the line's number.
+fn at_line(line: usize, e: LineFault) -> Fault
+    ensures { result ≡ fault e.refusal line e.word }
+{
+    Fault {
+        refusal: e.refusal,
+        line,
+        word: e.word,
+    }
+}
 
 impl<'a> Reader<'a> {
     // The line that is due, or the fault of a sheet that ends before it.
@@ -23,7 +34,7 @@ impl<'a> Reader<'a> {
         Ok(line)
     }
 
-    // What a function reads of the line that is due, or its fault with the line's number.
+    // What a function reads of the line that is due, or its fault.
     pub(crate) fn read_line<T, F: FnOnce(&Line<'a>) -> Result<T, LineFault>>(
         &mut self,
         read: F,
@@ -32,11 +43,7 @@ impl<'a> Reader<'a> {
         ensures { (f : LineReading T) → Reads (FnOnceReturnsAt F.FnOnce read) f → Takes (next_line f) self.old self.new result }
     {
         let line = self.next_line()?;
-        read(&line).map_err(|e| Fault {
-            refusal: e.refusal,
-            line: line.number,
-            word: e.word,
-        })
+        read(&line).map_err(|e| at_line(line.number, e))
     }
 
     // kept: the name, the limits and the room stand apart, since `header_line` takes them so.
