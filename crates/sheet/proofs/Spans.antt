@@ -1,8 +1,9 @@
 -- Where the moves of each position stand in a list of moves that never falls.
-use Rattle.std.proofs.Common.{◌≡◌, ℕ, suc, ◌+◌, ◌-◌, ◌<◌, eqb, List, [], ◌∷◌, ◌++◌, length, get_or, take, drop, set, sym, refl, ap, ◌∙◌, ap₂, ⊎_elim, append_assoc, arith}
+use Rattle.std.proofs.Common.{◌≡◌, ℕ, suc, ◌+◌, ◌-◌, ◌<◌, ◌≤◌, eqb, List, [], ◌∷◌, ◌++◌, length, get_or, take, drop, set, sym, refl, ap, ◌∙◌, ap₂, append_assoc, arith}
 use Rattle.std.specs.List.{prefix_len}
 use Rattle.std.proofs.lemmas.List.{take_more, drop_more, take_all, set_at, length-take-le, length-drop}
-use Rattle.std.proofs.lemmas.Bool.{cases_order, eq-eqb, ne_eqb, lt-ltb, le-ltb}
+use Rattle.std.proofs.lemmas.Bool.Decides.{nat_tests}
+use Rattle.std.proofs.lemmas.Grind.{common_steps}
 use Rattle.entries.specs.declared.Move.{Move}
 use Rattle.entries.specs.declared.Position.{Position}
 use Rattle.entries.specs.declared.PositionEntry.{PositionEntry}
@@ -13,20 +14,10 @@ use Rattle.sheet_format.proofs.Sorted.{none_from, none_before}
 
 -- the run of moves that start at p, behind those that start before it, has them all
 run_more : (p : ℕ) (m : Move) (ms : List Move) → NeverFalling m.from ms → prefix_len (λ x. eqb x.from p) (drop (count_before p ms) ms) ≡ count_from p ms → prefix_len (λ x. eqb x.from p) (drop (count_before p (m ∷ ms)) (m ∷ ms)) ≡ count_from p (m ∷ ms)
-run_more p m ms s ih = ⊎_elim here (⊎_elim before after) (cases_order m.from p)
-  where
-    here : m.from ≡ p → prefix_len (λ x. eqb x.from p) (drop (count_before p (m ∷ ms)) (m ∷ ms)) ≡ count_from p (m ∷ ms)
-    here e =
-        let first = none_before p m.from ms (omega arith) s in
-        let rest : prefix_len (λ (x : Move). eqb x.from p) ms ≡ count_from p ms = rw first at ih in
-        rw (eq-eqb m.from p e, le-ltb m.from p (omega arith), first, eq-eqb m.from p e) (omega (arith, rest))
-
-    before : m.from < p → prefix_len (λ x. eqb x.from p) (drop (count_before p (m ∷ ms)) (m ∷ ms)) ≡ count_from p (m ∷ ms)
-    before l = rw (ne_eqb m.from p (λ e. omega arith), lt-ltb m.from p l) ih
-
-    after : p < m.from → prefix_len (λ x. eqb x.from p) (drop (count_before p (m ∷ ms)) (m ∷ ms)) ≡ count_from p (m ∷ ms)
-    after g =
-        rw (le-ltb m.from p (omega arith), none_before p m.from ms (omega arith) s, ne_eqb m.from p (λ e. omega arith), none_from p m.from ms g s) refl
+run_more p m ms s ih =
+    let before : p ≤ m.from → count_before p ms ≡ 0 = λ h. none_before p m.from ms h s in
+    let from : p < m.from → count_from p ms ≡ 0 = λ h. ap length (none_from p m.from ms h s) in
+    grind (arith, nat_tests, common_steps)
 
 run_counts : (p f : ℕ) (ms : List Move) → NeverFalling f ms → prefix_len (λ m. eqb m.from p) (drop (count_before p ms) ms) ≡ count_from p ms
 run_counts p f [] s = refl
@@ -34,16 +25,7 @@ run_counts p f (m ∷ ms) s = run_more p m ms s.1 (run_counts p m.from ms s.1)
 
 -- the moves that start before the next position
 next_more : (p : ℕ) (m : Move) (ms : List Move) → count_before (p + 1) ms ≡ count_before p ms + count_from p ms → count_before (p + 1) (m ∷ ms) ≡ count_before p (m ∷ ms) + count_from p (m ∷ ms)
-next_more p m ms ih = ⊎_elim here (⊎_elim before after) (cases_order m.from p)
-  where
-    here : m.from ≡ p → count_before (p + 1) (m ∷ ms) ≡ count_before p (m ∷ ms) + count_from p (m ∷ ms)
-    here e = rw (eq-eqb m.from p e, le-ltb m.from p (omega arith), lt-ltb m.from (p + 1) (omega arith)) (omega (arith, ih))
-
-    before : m.from < p → count_before (p + 1) (m ∷ ms) ≡ count_before p (m ∷ ms) + count_from p (m ∷ ms)
-    before l = rw (ne_eqb m.from p (λ e. omega arith), lt-ltb m.from p l, lt-ltb m.from (p + 1) (omega arith)) (omega (arith, ih))
-
-    after : p < m.from → count_before (p + 1) (m ∷ ms) ≡ count_before p (m ∷ ms) + count_from p (m ∷ ms)
-    after g = rw (ne_eqb m.from p (λ e. omega arith), le-ltb m.from p (omega arith), le-ltb m.from (p + 1) (omega arith)) (omega (arith, ih))
+next_more p m ms ih = grind (arith, nat_tests)
 
 pub before_next : (p : ℕ) (ms : List Move) → count_before (p + 1) ms ≡ count_before p ms + count_from p ms
 before_next p [] = refl
