@@ -15,6 +15,7 @@ use sheet_format::Fault;
 /// Reads a sheet into tables: the front of each holds the sheet's entries, in their order.
 /// A sheet with a fault leaves every table as it was, an accepted one what stands past its counts.
 // kept: five tables and no struct of them, since each clause would say again that a field is the same reference.
+#[tactic(auto, using(sheet_format::proofs::Laws::format_laws, sheet_format::proofs::Boards::board_laws))]
 pub fn read(
     sheet: &[u8],
     positions: &mut [PositionEntry],
