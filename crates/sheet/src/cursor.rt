@@ -46,8 +46,8 @@ impl<'a> Reader<'a> {
         read(&line).map_err(|e| at_line(line.number, e))
     }
 
-    // kept: the name, the limits and the room stand apart, since `header_line` takes them so.
     // A section: its header, then an entry for each line, written to the front of a table.
+    // kept: the name, the limits and the room stand apart, since `header_line` takes them so.
     pub(crate) fn read_section<E: Copy, K: LineKind<E>>(
         &mut self,
         kind: &K,
@@ -61,6 +61,7 @@ impl<'a> Reader<'a> {
         ensures { TakesInto (section name.now low high room (K.reading kind.now)) high self.old self.new table.new result }
     {
         let count = self.read_line(|line| header_line(line, name, low, high, room))? as usize;
+        // kept: an index, since each line is shown the entries before it.
         for i in 0..count {
             let before = &table[..i];
             table[i] = self.read_line(|line| kind.entry(line, before))?;
