@@ -2,13 +2,14 @@
 use Rattle.std.proofs.Common.{◌≡◌, ℕ, zero, suc, ◌+◌, ◌<◌, ◌≤◌, cond, leb, List, [], ◌∷◌, ◌++◌, reverse, length, get_or, take, set, Some, None, Ok, Err, Option, Result, sym, refl, ap, ◌∙◌, append_assoc, append-nil, add-one, arith}
 use mathlib.Core.List.{reverse-append}
 use Rattle.std.proofs.lemmas.List.{take_more_set}
+use Rattle.std.proofs.lemmas.Bool.Decides.{nat_tests}
 use Rattle.refusal.specs.declared.Refusal.TheVariants.{WrongSection, ShortTable}
 use Rattle.sheet_format.specs.declared.Fault.{Fault}
 use Rattle.sheet_format.specs.declared.LineFault.{LineFault}
 use Rattle.sheet_format.specs.Cuts.{first_line, words}
 use Rattle.sheet_format.specs.Fields.{Field, on_ok, one_of, between, line_fault, read_fields, RowFits}
 use Rattle.sheet_format.specs.Reading.{Left, left, LineReading, fault, line_due, line_read, next_line, counted_lines, header, section}
-use Rattle.sheet_format.proofs.Results.{ok_along, err_ok, on_ok_parts, cond_ok}
+use Rattle.sheet_format.proofs.Results.{ok_along, err_ok, on_ok_parts}
 use Rattle.sheet_format.proofs.Fields.{fields_back}
 
 -- what a line that was taken says
@@ -35,9 +36,9 @@ header_most name low high room l m n e =
     let v = line_value (header name low high room) l m n e in
     let fs : List Field = one_of WrongSection (name ∷ []) ∷ between low high ∷ [] in
     let p = on_ok_parts (read_fields 1 fs v.0) (λ r. cond (leb (get_or r 1 0) room) (Ok (get_or r 1 0)) (Err (line_fault ShortTable 2))) n v.1 in
-    let t = cond_ok (leb (get_or p.0 1 0) room) (Ok (get_or p.0 1 0)) (line_fault ShortTable 2) n p.2 in
-    let same : get_or p.0 1 0 ≡ n = ok_along (λ k. get_or p.0 1 0 ≡ k) (get_or p.0 1 0) n t.1 refl in
-    omega (arith, same, second_fits (one_of WrongSection (name ∷ [])) low high p.0 (fields_back 1 fs v.0 p.0 p.1).0)
+    let fits = second_fits (one_of WrongSection (name ∷ [])) low high p.0 (fields_back 1 fs v.0 p.0 p.1).0 in
+    let passed = p.2 in
+    grind (arith, nat_tests)
 
 reverse_cons : {A : Type 0} (x : A) (ys seen : List A) → reverse (x ∷ ys) ++ seen ≡ reverse ys ++ (x ∷ seen)
 reverse_cons x ys seen = ap (λ l. l ++ seen) (reverse-append (x ∷ []) ys) ∙ append_assoc (reverse ys) (x ∷ []) seen

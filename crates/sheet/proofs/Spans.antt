@@ -1,9 +1,9 @@
 -- Where the moves of each position stand in a list of moves that never falls.
-use Rattle.std.proofs.Common.{◌≡◌, ℕ, suc, ◌+◌, ◌<◌, ◌≤◌, Bool, eqb, List, [], ◌∷◌, ◌++◌, length, get_or, take, drop, set, sym, refl, ap, ◌∙◌, ap₂, ⊎_elim, append_assoc, arith}
+use Rattle.std.proofs.Common.{◌≡◌, ℕ, suc, ◌+◌, ◌-◌, ◌<◌, ◌≤◌, eqb, List, [], ◌∷◌, ◌++◌, length, get_or, take, drop, set, sym, refl, ap, ◌∙◌, ap₂, append_assoc, arith}
 use Rattle.std.specs.List.{prefix_len}
-use Rattle.std.proofs.lemmas.List.{take_more, drop_more, take_all, set_at, length-take-le}
-use Rattle.std.proofs.lemmas.List.Sums.{prefix_len-drop_yes, prefix_len-drop_no, prefix_len-drop_all}
-use Rattle.std.proofs.lemmas.Bool.{cases_order, eq-eqb, ne_eqb, lt-ltb, le-ltb}
+use Rattle.std.proofs.lemmas.List.{take_more, drop_more, take_all, set_at, length-take-le, length-drop}
+use Rattle.std.proofs.lemmas.Bool.Decides.{nat_tests}
+use Rattle.std.proofs.lemmas.Grind.{common_steps}
 use Rattle.entries.specs.declared.Move.{Move}
 use Rattle.entries.specs.declared.Position.{Position}
 use Rattle.entries.specs.declared.PositionEntry.{PositionEntry}
@@ -12,56 +12,20 @@ use Rattle.sheet_format.specs.Lines.{count_from}
 use Rattle.sheet_format.specs.WellFormed.{NeverFalling}
 use Rattle.sheet_format.proofs.Sorted.{none_from, none_before}
 
-abbrev no_move : Move
-no_move = record { from = 0; to = 0; bruise = 0; energy = 0 }
-
--- a run goes on, or ends
-module _ (from : ℕ) (ms : List Move) (i n : ℕ) where
-  abbrev starts : Move → Bool
-  starts m = eqb m.from from
-
-  pub run_on : i < length ms → (get_or ms i no_move).from ≡ from → i + prefix_len starts (drop i ms) ≡ n → i + 1 + prefix_len starts (drop (i + 1) ms) ≡ n
-  run_on lt here h = omega (arith, h, prefix_len-drop_yes starts ms i no_move lt (eq-eqb _ from here))
-
-  pub run_stops : i < length ms → ((get_or ms i no_move).from ≡ from → ⊥) → i + prefix_len starts (drop i ms) ≡ n → i ≡ n
-  run_stops lt other h = omega (arith, h, prefix_len-drop_no starts ms i no_move lt (ne_eqb _ from other))
-
-  pub run_over : length ms ≤ i → i + prefix_len starts (drop i ms) ≡ n → i ≡ n
-  run_over past h = omega (arith, h, prefix_len-drop_all starts ms i past)
-
 -- the run of moves that start at p, behind those that start before it, has them all
 run_more : (p : ℕ) (m : Move) (ms : List Move) → NeverFalling m.from ms → prefix_len (λ x. eqb x.from p) (drop (count_before p ms) ms) ≡ count_from p ms → prefix_len (λ x. eqb x.from p) (drop (count_before p (m ∷ ms)) (m ∷ ms)) ≡ count_from p (m ∷ ms)
-run_more p m ms s ih = ⊎_elim here (⊎_elim before after) (cases_order m.from p)
-  where
-    here : m.from ≡ p → prefix_len (λ x. eqb x.from p) (drop (count_before p (m ∷ ms)) (m ∷ ms)) ≡ count_from p (m ∷ ms)
-    here e =
-        let first = none_before p m.from ms (omega arith) s in
-        let rest : prefix_len (λ (x : Move). eqb x.from p) ms ≡ count_from p ms = rw first at ih in
-        rw (eq-eqb m.from p e, le-ltb m.from p (omega arith), first, eq-eqb m.from p e) (omega (arith, rest))
+run_more p m ms s ih =
+    let before : p ≤ m.from → count_before p ms ≡ 0 = λ h. none_before p m.from ms h s in
+    let from : p < m.from → count_from p ms ≡ 0 = λ h. ap length (none_from p m.from ms h s) in
+    grind (arith, nat_tests, common_steps)
 
-    before : m.from < p → prefix_len (λ x. eqb x.from p) (drop (count_before p (m ∷ ms)) (m ∷ ms)) ≡ count_from p (m ∷ ms)
-    before l = rw (ne_eqb m.from p (λ e. omega arith), lt-ltb m.from p l) ih
-
-    after : p < m.from → prefix_len (λ x. eqb x.from p) (drop (count_before p (m ∷ ms)) (m ∷ ms)) ≡ count_from p (m ∷ ms)
-    after g =
-        rw (le-ltb m.from p (omega arith), none_before p m.from ms (omega arith) s, ne_eqb m.from p (λ e. omega arith), none_from p m.from ms g s) refl
-
-pub run_counts : (p f : ℕ) (ms : List Move) → NeverFalling f ms → prefix_len (λ m. eqb m.from p) (drop (count_before p ms) ms) ≡ count_from p ms
+run_counts : (p f : ℕ) (ms : List Move) → NeverFalling f ms → prefix_len (λ m. eqb m.from p) (drop (count_before p ms) ms) ≡ count_from p ms
 run_counts p f [] s = refl
 run_counts p f (m ∷ ms) s = run_more p m ms s.1 (run_counts p m.from ms s.1)
 
 -- the moves that start before the next position
 next_more : (p : ℕ) (m : Move) (ms : List Move) → count_before (p + 1) ms ≡ count_before p ms + count_from p ms → count_before (p + 1) (m ∷ ms) ≡ count_before p (m ∷ ms) + count_from p (m ∷ ms)
-next_more p m ms ih = ⊎_elim here (⊎_elim before after) (cases_order m.from p)
-  where
-    here : m.from ≡ p → count_before (p + 1) (m ∷ ms) ≡ count_before p (m ∷ ms) + count_from p (m ∷ ms)
-    here e = rw (eq-eqb m.from p e, le-ltb m.from p (omega arith), lt-ltb m.from (p + 1) (omega arith)) (omega (arith, ih))
-
-    before : m.from < p → count_before (p + 1) (m ∷ ms) ≡ count_before p (m ∷ ms) + count_from p (m ∷ ms)
-    before l = rw (ne_eqb m.from p (λ e. omega arith), lt-ltb m.from p l, lt-ltb m.from (p + 1) (omega arith)) (omega (arith, ih))
-
-    after : p < m.from → count_before (p + 1) (m ∷ ms) ≡ count_before p (m ∷ ms) + count_from p (m ∷ ms)
-    after g = rw (ne_eqb m.from p (λ e. omega arith), le-ltb m.from p (omega arith), le-ltb m.from (p + 1) (omega arith)) (omega (arith, ih))
+next_more p m ms ih = grind (arith, nat_tests)
 
 pub before_next : (p : ℕ) (ms : List Move) → count_before (p + 1) ms ≡ count_before p ms + count_from p ms
 before_next p [] = refl
@@ -96,10 +60,7 @@ module _ (ms : List Move) (xs : List Position) (old : List PositionEntry) where
   pub all_written : (p : ℕ) → p ≡ length xs → written p ≡ entries_from ms 0 xs ++ drop (length xs) old
   all_written p is = ap₂ (λ l k. entries_from ms 0 l ++ drop k old) (take_all p xs (omega arith)) is
 
-pub same_entry : (ms : List Move) (p : ℕ) (x : Position) (first degree : ℕ) → first ≡ count_before p ms → degree ≡ count_from p ms → Path PositionEntry (record { position = x; first = first; degree = degree }) (entry_at ms p x)
-same_entry ms p x first degree f d = λ i. record { position = x; first = f i; degree = d i }
-
--- a run from where the moves of p begin
-pub run_to : (p : ℕ) (ms : List Move) (first end f : ℕ) → first ≡ count_before p ms → end ≡ first + prefix_len (λ m. eqb m.from p) (drop first ms) → NeverFalling f ms → end ≡ count_before p ms + count_from p ms
-run_to p ms first end f is h s =
-    h ∙ ap₂ (λ a b. a + b) is (ap (λ k. prefix_len (λ (m : Move). eqb m.from p) (drop k ms)) is ∙ run_counts p f ms s)
+-- the run from where the moves of p begin
+pub run_of : (p : ℕ) (ms : List Move) (first f : ℕ) → first ≡ count_before p ms → NeverFalling f ms → prefix_len (λ m. eqb m.from p) (take (length ms - first) (drop first ms)) ≡ count_from p ms
+run_of p ms first f is s =
+    ap (prefix_len (λ (m : Move). eqb m.from p)) (take_all (length ms - first) (drop first ms) (omega (arith, length-drop first ms))) ∙ ap (λ k. prefix_len (λ (m : Move). eqb m.from p) (drop k ms)) is ∙ run_counts p f ms s

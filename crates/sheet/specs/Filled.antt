@@ -1,13 +1,14 @@
 -- What reading a sheet answers, and what it leaves in the tables.
-use Rattle.std.specs.Prelude.{◌≡◌, ℕ, Bool, List, ◌++◌, length, drop, Ok, Err, Result}
+use Rattle.std.specs.Prelude.{◌≡◌, ℕ, ◌≤◌, Bool, List, ◌++◌, length, take, drop, Ok, Err, Result}
 use Rattle.entries.specs.declared.Arrow.{Arrow}
 use Rattle.entries.specs.declared.Move.{Move}
-use Rattle.entries.specs.declared.Position.{Position}
 use Rattle.entries.specs.declared.PositionEntry.{PositionEntry}
 use Rattle.entries.specs.declared.Rule.{Rule}
 use Rattle.sheet_format.specs.declared.Fault.{Fault}
 use Rattle.sheet_format.specs.Read.{read_sheet}
 use Rattle.sheet_format.specs.Sheets.{Sheet, Room}
+use Rattle.sheet_format.specs.WellFormed.{NeverFalling}
+use Rattle.sheet.specs.declared.parts.Lists.{Lists}
 use Rattle.sheet.specs.declared.parts.Outline.{Outline}
 use Rattle.sheet.specs.Sections.{sheet_of, Within}
 
@@ -28,7 +29,17 @@ abbrev pub filled : {A : Type 0} → (Sheet → List A) → Result Sheet Fault �
 filled f (Ok s) t = f s ++ drop (length (f s)) t
 filled f (Err e) t = t
 
+-- every count fits its table and its list, and no move starts below the one before it
+pub record Fits (z : Room) (o : Outline) (ls : Lists) : Type 0 where
+  pub within : Within o ls
+  pub positions : (o.positions ≤ z.positions) × (o.positions ≤ 4096)
+  pub moves : (o.moves ≤ z.moves) × (o.moves ≤ 4096)
+  pub states : (o.states ≤ z.states) × (o.states ≤ 64)
+  pub arrows : (o.arrows ≤ z.arrows) × (o.arrows ≤ 256)
+  pub rules : (o.rules ≤ z.rules) × (o.rules ≤ 5)
+  pub sorted : NeverFalling 0 (take o.moves ls.moves)
+
 -- a sheet was read whole into lists, or refused
-abbrev pub ReadsInto : Room → List ℕ → List Position → List Move → List Bool → List Arrow → List Rule → Result Outline Fault → Type 0
-ReadsInto z bs ps ms ss as' rs (Ok o) = (read_sheet z bs ≡ Ok (sheet_of o ps ms ss as' rs)) × Within o ps ms ss as' rs
-ReadsInto z bs ps ms ss as' rs (Err e) = read_sheet z bs ≡ Err e
+abbrev pub ReadsInto : Room → List ℕ → Lists → Result Outline Fault → Type 0
+ReadsInto z bs ls (Ok o) = (read_sheet z bs ≡ Ok (sheet_of o ls)) × Fits z o ls
+ReadsInto z bs ls (Err e) = read_sheet z bs ≡ Err e

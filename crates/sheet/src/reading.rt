@@ -6,15 +6,16 @@ ghost use Rattle.sheet_format.specs.Read.{read_sheet};
 ghost use Rattle.sheet.specs.Filled.{room_in, outlined, filled};
 ghost use Rattle.sheet.specs.Spells.{Spells};
 
-use crate::parts::{Capacity, Outline};
+use crate::parts::{Capacity, Lists, Outline};
 use crate::tables::{copy_front, write_positions};
 use crate::whole::read_whole;
-use board::Turn;
-use entries::{Arrow, Move, Position, PositionEntry, Rule};
+use entries::{Arrow, Move, PositionEntry, Rule};
 use sheet_format::Fault;
 
 /// Reads a sheet into tables: the front of each holds the sheet's entries, in their order.
 /// A sheet with a fault leaves every table as it was, an accepted one what stands past its counts.
+// kept: five tables and no struct of them, since each clause would say again that a field is the same reference.
+#[tactic(auto, using(sheet_format::proofs::Laws::format_laws, sheet_format::proofs::Boards::board_laws))]
 pub fn read(
     sheet: &[u8],
     positions: &mut [PositionEntry],
@@ -40,39 +41,16 @@ pub fn read(
         arrows: arrows.len(),
         rules: rules.len(),
     };
-    let mut all_positions = [Position {
-        turn: Turn::Arm,
-        rests: false,
-        label: 0,
-    }; 4096];
-    let mut all_moves = [Move {
-        from: 0,
-        to: 0,
-        bruise: 0,
-        energy: 0,
-    }; 4096];
-    let mut all_states = [false; 64];
-    let mut all_arrows = [Arrow {
-        from: 0,
-        need: 0,
-        bar: 0,
-        to: 0,
-    }; 256];
-    let mut all_rules = [Rule::Met(0); 5];
-    let outline = read_whole(
-        sheet,
-        room,
-        &mut all_positions,
-        &mut all_moves,
-        &mut all_states,
-        &mut all_arrows,
-        &mut all_rules,
-    )?;
-    let (n, m) = (outline.positions, outline.moves);
-    write_positions(positions, &all_positions[0..n], &all_moves[0..m]);
-    copy_front(moves, &all_moves, outline.moves);
-    copy_front(states, &all_states, outline.states);
-    copy_front(arrows, &all_arrows, outline.arrows);
-    copy_front(rules, &all_rules, outline.rules);
+    let mut lists = Lists::new();
+    let outline = read_whole(sheet, room, &mut lists)?;
+    write_positions(
+        positions,
+        &lists.positions[..outline.positions],
+        &lists.moves[..outline.moves],
+    );
+    copy_front(moves, &lists.moves[..outline.moves]);
+    copy_front(states, &lists.states[..outline.states]);
+    copy_front(arrows, &lists.arrows[..outline.arrows]);
+    copy_front(rules, &lists.rules[..outline.rules]);
     Ok(outline)
 }

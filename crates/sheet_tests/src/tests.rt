@@ -1,6 +1,6 @@
 // Each table has four entries, which hold something else before a sheet is read.
 use board::Turn;
-use entries::{Arrow, Move, Position, PositionEntry, Rule, Start};
+use entries::{Arrow, Move, PositionEntry, Rule, Start};
 use refusal::Refusal;
 use sheet::{Outline, read};
 use sheet_format::Fault;
@@ -10,7 +10,7 @@ use std::process::Abort;
 const SHEET: &[u8] =
     b"positions 3\na - 1\na r 65535\np - 2\nmoves 3\n0 1 5 1\n0 2 0 3\n2 1 0 0\nstates 2\nn\ny\narrows 2\n1 4 0 0\n0 2 4 1\nrules 2\nbefore 0 3\nnever 2\nstart 1\n2 7 9\n";
 
-#[derive(Clone, Copy, PartialEq)]
+#[derive(Clone, Copy, Debug, PartialEq)]
 struct Tables {
     positions: [PositionEntry; 4],
     moves: [Move; 4],
@@ -37,49 +37,21 @@ const WHOLE: Room = Room {
     rules: 4,
 };
 
-fn entry(turn: Turn, rests: bool, label: u32, first: u32, degree: u32) -> PositionEntry {
-    PositionEntry {
-        position: Position { turn, rests, label },
-        first,
-        degree,
-    }
-}
-
-fn go(from: u32, to: u32, bruise: u32, energy: u32) -> Move {
-    Move {
-        from,
-        to,
-        bruise,
-        energy,
-    }
-}
-
-fn arrow(from: u32, need: u32, bar: u32, to: u32) -> Arrow {
-    Arrow {
-        from,
-        need,
-        bar,
-        to,
-    }
-}
-
 // what the tables hold before
 fn before() -> Tables {
     Tables {
-        positions: [entry(Turn::Person, true, 77, 78, 79); 4],
-        moves: [go(71, 72, 73, 74); 4],
+        positions: [PositionEntry::new(Turn::Person, true, 77, 78, 79); 4],
+        moves: [Move::new(71, 72, 73, 74); 4],
         states: [true, false, true, false],
-        arrows: [arrow(61, 62, 63, 64); 4],
+        arrows: [Arrow::new(61, 62, 63, 64); 4],
         rules: [Rule::After(51, 52); 4],
     }
 }
 
+// the first entries of a table, all where it has no more than n
 fn front<T>(table: &mut [T], n: usize) -> &mut [T] {
-    if n <= table.len() {
-        &mut table[0..n]
-    } else {
-        table
-    }
+    let n = n.min(table.len());
+    &mut table[..n]
 }
 
 fn read_into(tables: &mut Tables, sheet: &[u8], room: Room) -> Result<Outline, Fault> {
@@ -96,11 +68,8 @@ fn read_into(tables: &mut Tables, sheet: &[u8], room: Room) -> Result<Outline, F
 // a sheet is refused, and the tables hold what they held
 fn refused(rt: &impl Abort, sheet: &[u8], room: Room, fault: Fault) {
     let mut tables = before();
-    match read_into(&mut tables, sheet, room) {
-        Ok(_) => assert!(rt; false),
-        Err(found) => assert!(rt; found == fault),
-    }
-    assert!(rt; tables == before());
+    assert_eq!(rt; read_into(&mut tables, sheet, room), Err(fault));
+    assert_eq!(rt; tables, before());
 }
 
 fn fault(refusal: Refusal, line: usize, word: usize) -> Fault {
@@ -113,7 +82,7 @@ fn fault(refusal: Refusal, line: usize, word: usize) -> Fault {
 
 #[test]
 fn short_tables(rt: HostRuntime) {
-    for row in &[
+    for &(room, line) in &[
         (
             Room {
                 positions: 2,
@@ -141,7 +110,7 @@ fn short_tables(rt: HostRuntime) {
             5,
         ),
     ] {
-        refused(&rt, SHEET, row.0, fault(Refusal::ShortTable, row.1, 2));
+        refused(&rt, SHEET, room, fault(Refusal::ShortTable, line, 2));
     }
 }
 
@@ -186,16 +155,21 @@ fn after() -> Tables {
     let old = before();
     Tables {
         positions: [
-            entry(Turn::Arm, false, 1, 0, 2),
-            entry(Turn::Arm, true, 65535, 2, 0),
-            entry(Turn::Person, false, 2, 2, 1),
+            PositionEntry::new(Turn::Arm, false, 1, 0, 2),
+            PositionEntry::new(Turn::Arm, true, 65535, 2, 0),
+            PositionEntry::new(Turn::Person, false, 2, 2, 1),
             old.positions[3],
         ],
-        moves: [go(0, 1, 5, 1), go(0, 2, 0, 3), go(2, 1, 0, 0), old.moves[3]],
+        moves: [
+            Move::new(0, 1, 5, 1),
+            Move::new(0, 2, 0, 3),
+            Move::new(2, 1, 0, 0),
+            old.moves[3],
+        ],
         states: [false, true, old.states[2], old.states[3]],
         arrows: [
-            arrow(1, 4, 0, 0),
-            arrow(0, 2, 4, 1),
+            Arrow::new(1, 4, 0, 0),
+            Arrow::new(0, 2, 4, 1),
             old.arrows[2],
             old.arrows[3],
         ],
@@ -210,22 +184,20 @@ fn after() -> Tables {
 
 fn accepted(rt: &impl Abort, room: Room) {
     let mut tables = before();
-    match read_into(&mut tables, SHEET, room) {
-        Ok(outline) => {
-            assert!(rt; outline.positions == 3 && outline.moves == 3);
-            assert!(rt; outline.states == 2 && outline.arrows == 2 && outline.rules == 2);
-            assert!(rt;
-                outline.start
-                    == Start {
-                        position: 2,
-                        bruise: 7,
-                        energy: 9,
-                    }
-            );
-        }
-        Err(_) => assert!(rt; false),
-    }
-    assert!(rt; tables == after());
+    let outline = Outline {
+        positions: 3,
+        moves: 3,
+        states: 2,
+        arrows: 2,
+        rules: 2,
+        start: Start {
+            position: 2,
+            bruise: 7,
+            energy: 9,
+        },
+    };
+    assert_eq!(rt; read_into(&mut tables, SHEET, room), Ok(outline));
+    assert_eq!(rt; tables, after());
 }
 
 #[test]
