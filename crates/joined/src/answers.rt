@@ -60,6 +60,7 @@ impl<'a, 'b, B: Board, T: Task> Joined<'a, 'b, B, T> {
     }
 
     // The state after `z` reads the label of `p`.
+    #[tactic(auto, using(crate::proofs::Wide::label_there, crate::proofs::Wide::next_there))]
     fn state_after(&self, z: u32, p: u32) -> u32
         requires state { z < (T.Task.meaning self.now.task.now).states }
         requires there { p < length (B.Board.meaning self.now.below.now).rows }
@@ -70,6 +71,7 @@ impl<'a, 'b, B: Board, T: Task> Joined<'a, 'b, B, T> {
     }
 }
 
+#[tactic(auto, using(crate::proofs::Wide::below_turn, crate::proofs::Wide::below_label, crate::proofs::Wide::below_degree))]
 impl<'a, 'b, B: Board, T: Task> Board for Joined<'a, 'b, B, T> {
     ghost meaning = { λ j. meant (B.Board.meaning j.below.now) (T.Task.meaning j.task.now) };
 
