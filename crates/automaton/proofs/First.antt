@@ -1,13 +1,13 @@
 -- The first arrow that fits, and the automaton of arrows that stay inside.
-use Rattle.std.proofs.Common.{◌≡◌, ℕ, zero, suc, ◌+◌, ◌<◌, max, Bool, true, false, cond, ◌&&◌, eqb, ltb, List, [], ◌∷◌, length, get_or, drop, Some, None, Decides, sym, refl, ap, ◌∙◌, subst, ap₂, le_of_suc-le-suc, not-suc-le-zero, arith}
+use Rattle.std.proofs.Common.{◌≡◌, ℕ, zero, suc, ◌<◌, max, Bool, true, false, cond, ◌&&◌, eqb, ltb, List, [], ◌∷◌, length, get_or, Option, Some, None, Decides, sym, refl, ap, ◌∙◌, subst, ap₂, le_of_suc-le-suc, not-suc-le-zero, arith}
 use lib.Bits.{bit_and}
-use Rattle.std.proofs.lemmas.List.{drop_more}
-use Rattle.std.proofs.lemmas.Bool.{cond-true, cond-false, cond_below, lt-ltb}
+use Rattle.std.specs.List.{find}
+use Rattle.std.specs.Option.{option_map, option_map_or, MatchOption}
+use Rattle.std.proofs.lemmas.Bool.{cond-true, cond-false, lt-ltb}
 use Rattle.std.proofs.lemmas.Bool.Decides.{Decides-eqb, Decides-and, Decides-like}
 use Rattle.entries.specs.declared.Arrow.{Arrow}
-use Rattle.task.specs.Dfa.{next_at}
 use Rattle.automaton.specs.Arrows.{arrow_fits, next_state}
-use Rattle.automaton.specs.Follows.{Fits, Follows, Whole, IsAutomaton, arrow_at, absent_arrow}
+use Rattle.automaton.specs.Follows.{Fits, Follows, Whole, IsAutomaton, arrow_at}
 use Rattle.automaton.specs.Means.{size_of, next_within, bounded_dfa}
 use Rattle.automaton.proofs.Bitwise.{covers, covers_back, apart, apart_back}
 
@@ -72,15 +72,16 @@ made states arrows whole =
       follows = λ z label. subst (Follows arrows z label) (sym (reach z label)) (follows arrows z label);
     }
 
--- one arrow on
-pub within_more : (n : ℕ) (arrows : List Arrow) (i z label : ℕ) (b : Bool) → i < length arrows
-    → b ≡ (arrow_fits (arrow_at arrows i) z label && ltb (arrow_at arrows i).to n)
-    → next_within n (drop i arrows) z label ≡ cond b (arrow_at arrows i).to (next_within n (drop (i + 1) arrows) z label)
-within_more n arrows i z label b h e =
-    ap (λ xs. next_within n xs z label) (drop_more arrows i absent_arrow h)
-    ∙ ap (λ y. cond y (arrow_at arrows i).to (next_within n (drop (i + 1) arrows) z label)) (sym e)
+lead : (b : Bool) (a : Arrow) (x z : ℕ) (o : Option Arrow) → x ≡ option_map_or (λ (r : Arrow). r.to) o z → cond b a.to x ≡ option_map_or (λ (r : Arrow). r.to) (cond b (Some a) o) z
+lead true a x z o e = refl
+lead false a x z o e = e
 
-pub answered : (states : List Bool) (arrows : List Arrow) (n z label x : ℕ) → n ≡ size_of states → z < n → x ≡ next_within n arrows z label
-    → Some x ≡ next_at (bounded_dfa states arrows) z label
-answered states arrows n z label x size h e =
-    ap Some (e ∙ ap (λ m. next_within m arrows z label) size) ∙ cond_below z (size_of states) (Some (next_within (size_of states) arrows z label)) None (omega arith)
+-- the state after a label is where the first arrow leads that fits and leads inside
+next_found : (n : ℕ) (arrows : List Arrow) (z label : ℕ) → next_within n arrows z label ≡ option_map_or (λ (a : Arrow). a.to) (find (λ (a : Arrow). arrow_fits a z label && ltb a.to n) arrows) z
+next_found n [] z label = refl
+next_found n (a ∷ rest) z label = lead (arrow_fits a z label && ltb a.to n) a (next_within n rest z label) z (find (λ (r : Arrow). arrow_fits r z label && ltb r.to n) rest) (next_found n rest z label)
+
+pub next_is : {R : Type 0} (v : R → Arrow) (n : ℕ) (arrows : List Arrow) (z label x : ℕ) (o : Option R)
+    → option_map v o ≡ find (λ (a : Arrow). arrow_fits a z label && ltb a.to n) arrows → MatchOption o (x ≡ z) (λ r. x ≡ (v r).to) → x ≡ next_within n arrows z label
+next_is v n arrows z label x None e m = m ∙ ap (λ q. option_map_or (λ (a : Arrow). a.to) q z) e ∙ sym (next_found n arrows z label)
+next_is v n arrows z label x (Some r) e m = m ∙ ap (λ q. option_map_or (λ (a : Arrow). a.to) q z) e ∙ sym (next_found n arrows z label)

@@ -3,7 +3,7 @@ ghost use Rattle.std.specs.Prelude.{◌≡◌, ℕ, ◌<◌, Bool, ◌&&◌, len
 ghost use Rattle.refusal.specs.Number.{refusal_number};
 ghost use Rattle.automaton.specs.Arrows.{arrow_fits};
 ghost use Rattle.automaton.specs.Follows.{Whole, IsAutomaton};
-ghost use Rattle.automaton.specs.Means.{means, means_in_range};
+ghost use Rattle.automaton.specs.Means.{means, means_in_range, next_within};
 
 use crate::holder::Automaton;
 use entries::Arrow;
@@ -24,6 +24,16 @@ fn leads(arrow: &Arrow, z: u32, label: u32, count: u32) -> bool
     fits(arrow, z, label) && arrow.to < count
 }
 
+// The state after `z` reads a label: where the first arrow leads that fits and leads to one of `count` states, or `z`.
+fn state_after(arrows: &[Arrow], z: u32, label: u32, count: u32) -> u32
+    ensures { result ≡ next_within count arrows.now z label }
+{
+    arrows
+        .iter()
+        .find(|arrow| leads(arrow, z, label, count))
+        .map_or(z, |arrow| arrow.to)
+}
+
 // Whether both ends of an arrow are among `count` states.
 fn inside(arrow: &Arrow, count: u32) -> bool
     ensures { Decides result ((arrow.now.from < count) × (arrow.now.to < count)) }
@@ -40,12 +50,12 @@ impl<'a, 'b> Automaton<'a, 'b> {
         if states.len() > 64 {
             return Err(Refusal::OutOfRange);
         }
-        for arrow in arrows {
-            if !inside(arrow, states.len() as u32) {
-                return Err(Refusal::OutOfRange);
-            }
+        let count = states.len() as u32;
+        if arrows.iter().all(|arrow| inside(arrow, count)) {
+            Ok(Automaton { states, arrows })
+        } else {
+            Err(Refusal::OutOfRange)
         }
-        Ok(Automaton { states, arrows })
     }
 }
 
@@ -55,7 +65,7 @@ impl<'a, 'b> Task for Automaton<'a, 'b> {
     ghost ranges = { means_in_range };
 
     fn states(&self) -> u32 {
-        self.states.len().min(64).max(1) as u32
+        self.states.len().clamp(1, 64) as u32
     }
 
     fn first(&self) -> u32 {
@@ -64,24 +74,10 @@ impl<'a, 'b> Task for Automaton<'a, 'b> {
 
     fn next(&self, z: u32, label: u32) -> Option<u32> {
         let count = self.states();
-        if z >= count {
-            return None;
-        }
-        for arrow in self.arrows {
-            if leads(arrow, z, label, count) {
-                return Some(arrow.to);
-            }
-        }
-        Some(z)
+        (z < count).then(|| state_after(self.arrows, z, label, count))
     }
 
     fn accepting(&self, z: u32) -> Option<bool> {
-        if z >= self.states() {
-            None
-        } else if self.states.len() == 0 {
-            Some(true)
-        } else {
-            Some(self.states[z as usize])
-        }
+        (z < self.states()).then(|| self.states.get(z as usize).map_or(true, |accepts| *accepts))
     }
 }

@@ -1,10 +1,10 @@
 -- A board's rows, copied one after another.
 use Rattle.std.proofs.Common.{◌≡◌, ℕ, ◌+◌, ◌*◌, ◌<◌, ◌≤◌, List, [], ◌∷◌, ◌++◌, map, length, take, drop, Some, Option, sym, refl, ap, ◌∙◌, subst, ap₂, arith}
-use Rattle.std.proofs.ByRecursion.{All-get_or, All-push, All-weaker}
+use Rattle.std.proofs.lemmas.List.Elements.{All-head, All-tail, All-push, All-weaker}
 use Rattle.std.proofs.lemmas.List.{append_assoc, drop-append-le, drop_at, length-append, length-drop, map-append, take_all, take-append-le, take_more}
 use Rattle.std.proofs.lemmas.Option.{slice_get-get_or}
 use Rattle.std.specs.Option.{option_map}
-use Rattle.std.specs.List.{AllByRecursion, slice_get}
+use Rattle.std.specs.List.{All, slice_get}
 use Rattle.board.specs.declared.parts.Step.{Step}
 use Rattle.board.specs.Questions.{bound, turn_at, label_at, rests_at, degree_at, step_at}
 use Rattle.board.specs.Ranges.{InRange}
@@ -50,9 +50,9 @@ grown ss more r h =
     ap (λ (m : List Step). record { turn = r.turn; label = r.label; rests = r.rests; moves = m })
     (ap (take r.degree) (drop-append-le r.first ss more (omega arith)) ∙ take-append-le r.degree (drop r.first ss) more (omega (arith, length-drop r.first ss)))
 
-all_grown : (ss more : List Step) (rs : List FlatRow) → AllByRecursion (Among ss) rs → map (row_of (ss ++ more)) rs ≡ map (row_of ss) rs
+all_grown : (ss more : List Step) (rs : List FlatRow) → All (Among ss) rs → map (row_of (ss ++ more)) rs ≡ map (row_of ss) rs
 all_grown ss more [] h = refl
-all_grown ss more (r ∷ rs) h = ap₂ (λ x xs. x ∷ xs) (grown ss more r h.0) (all_grown ss more rs h.1)
+all_grown ss more (r ∷ rs) h = ap₂ (λ x xs. x ∷ xs) (grown ss more r (All-head (Among ss) r rs h)) (all_grown ss more rs (All-tail (Among ss) r rs h))
 
 -- a position as a row has it, with its moves from `first` on
 pub record Held (row : Row) (first : ℕ) (r : FlatRow) : Type 0 where
@@ -75,7 +75,7 @@ held_among ss new row r e h = omega (arith, h.first_same, h.degree_same, ap leng
 -- the first p rows of a table are copied
 pub record Copied (t : Table) (p : ℕ) (rs : List FlatRow) (ss : List Step) : Type 0 where
   pub same : map (row_of ss) rs ≡ take p t.rows
-  pub among : AllByRecursion (Among ss) rs
+  pub among : All (Among ss) rs
   pub few : length ss ≤ 64 * p
 
 -- one more row is copied, and its moves are appended
@@ -97,4 +97,4 @@ all_copied t p start rs ss h e so_far =
     λ i. record { start = e i; rows = rows i }
 
 pub copied_inside : (t : Table) (p : ℕ) (rs : List FlatRow) (ss : List Step) → Copied t p rs ss → Inside rs ss
-copied_inside t p rs ss so_far i h = All-get_or (Among ss) rs i absent_flat h so_far.among
+copied_inside t p rs ss so_far i h = so_far.among i absent_flat h

@@ -1,6 +1,7 @@
 // What a flat board answers.
-ghost use Rattle.std.specs.Prelude.{◌≡◌};
+ghost use Rattle.std.specs.Prelude.{◌≡◌, IfSome};
 ghost use Rattle.std.specs.List.{slice_get};
+ghost use Rattle.flat.specs.Flat.{Among};
 ghost use Rattle.flat.specs.Meaning.{flat_meaning, flat_ranges};
 
 use crate::holder::FlatBoard;
@@ -10,14 +11,10 @@ use board::{Board, Step, Turn};
 impl FlatBoard {
     // The row of a position.
     fn row(&self, p: u32) -> Option<FlatRow>
-        ensures { result ≡ slice_get self.now.rows.items p }
+        ensures value { result ≡ slice_get self.now.rows.items p }
+        ensures among { IfSome result (Among self.now.steps.items) }
     {
-        let p = p as usize;
-        if p < self.rows.len() {
-            Some(self.rows[p])
-        } else {
-            None
-        }
+        self.rows.get(p as usize).copied()
     }
 }
 
@@ -35,31 +32,25 @@ impl Board for FlatBoard {
     }
 
     fn turn(&self, p: u32) -> Option<Turn> {
-        let row = self.row(p)?;
-        Some(row.turn)
+        self.row(p).map(|row| row.turn)
     }
 
     fn label(&self, p: u32) -> Option<u32> {
-        let row = self.row(p)?;
-        Some(row.label)
+        self.row(p).map(|row| row.label)
     }
 
     fn rests(&self, p: u32) -> Option<bool> {
-        let row = self.row(p)?;
-        Some(row.rests)
+        self.row(p).map(|row| row.rests)
     }
 
     fn degree(&self, p: u32) -> Option<u32> {
-        let row = self.row(p)?;
-        Some(row.degree)
+        self.row(p).map(|row| row.degree)
     }
 
     fn step(&self, p: u32, k: u32) -> Option<Step> {
         let row = self.row(p)?;
-        if k < row.degree {
-            Some(self.steps[row.first as usize + k as usize])
-        } else {
-            None
-        }
+        let first = row.first as usize;
+        let steps = &self.steps[first..first + row.degree as usize];
+        steps.get(k as usize).copied()
     }
 }

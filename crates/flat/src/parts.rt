@@ -1,4 +1,5 @@
 // What a flat board is made of.
+// kept: a table board's entries look alike, but it lends a sheet's tables and takes no heap, and a flat board stands on boards alone.
 use board::Turn;
 
 /// A position: who moves, its label, and whether it rests. Its moves are `degree` of the moves, from `first` on.

@@ -1,12 +1,11 @@
 -- What the joined board answers where the join has at most 4,096 positions.
 use Rattle.std.proofs.Common.{◌≡◌, ℕ, ◌+◌, ◌*◌, ◌/◌, ◌%◌, ◌<◌, ◌≤◌, Bool, true, false, cond, ◌&&◌, ltb, leb, length, Some, None, Option, sym, refl, ap, ◌∙◌, subst, ap₂, ⊎_elim, arith}
-use Rattle.std.specs.Option.{option_map}
+use Rattle.std.specs.Option.{is_some, option_map, option_map_or, MatchOption}
 use Rattle.std.specs.List.{slice_get}
 use Rattle.std.proofs.lemmas.Nat.{mod_below}
 use Rattle.std.proofs.lemmas.Option.{slice_get-get_or, slice_get_past}
 use Rattle.std.proofs.lemmas.Bool.{leb-true, le-leb, cond-true, cases_lt, lt-ltb}
 use Rattle.board.specs.declared.parts.Step.{Step}
-use Rattle.board.specs.declared.parts.Turn.{Turn}
 use Rattle.board.specs.Table.{Table, row_at, move_at, absent_row, absent_move}
 use Rattle.board.specs.Ranges.{InRange}
 use Rattle.board.specs.Questions.{bound, turn_at, label_at, rests_at, degree_at, step_at}
@@ -16,7 +15,7 @@ use Rattle.product.specs.Product.{joined_move, joined}
 use Rattle.product.proofs.Answers.{joined_turn, joined_label, joined_rests, joined_degree, joined_step}
 use Rattle.product.proofs.Moves.{is_join}
 use Rattle.product.proofs.Rows.{joined_count, place_below}
-use Rattle.joined.specs.Meant.{join_size, meant, width_of}
+use Rattle.joined.specs.Meant.{join_size, meant, below_of, width_of}
 
 pub whole : (t : Table) (d : Dfa) → join_size t d ≤ 4096 → meant t d ≡ joined t d
 whole t d h = cond-true (leb (join_size t d) 4096) (joined t d) t (le-leb (join_size t d) 4096 h)
@@ -45,6 +44,38 @@ step_lands t p k s fair e =
     (cases_lt k (length (row_at t p).moves)))
     (λ (hp : length t.rows ≤ p). absurd (none_is_not_some s (e ∙ ap (λ o. bound o (λ r. slice_get r.moves k)) (slice_get_past t.rows p hp))))
     (cases_lt p (length t.rows))
+
+-- a width is there where the join has at most 4,096 positions
+pub few_there : (t : Table) (d : Dfa) (o : Option ℕ) → o ≡ width_of t d → is_some o ≡ true → join_size t d ≤ 4096
+few_there t d o e h = leb-true (join_size t d) 4096 (known (leb (join_size t d) 4096) (sym (ap is_some e) ∙ h))
+  where
+    known : (b : Bool) → is_some (cond b (Some d.states) None) ≡ true → b ≡ true
+    known true k = refl
+    known false k = k
+
+-- the count, with the width where there is one
+pub count_is : (t : Table) (d : Dfa) (o : Option ℕ) (n x : ℕ) → o ≡ width_of t d → n ≡ length t.rows → MatchOption o (x ≡ n) (λ m. x ≡ n * m) → x ≡ length (meant t d).rows
+count_is t d o n x eo en h = counted (leb (join_size t d) 4096) (subst (λ q. MatchOption q (x ≡ n) (λ m. x ≡ n * m)) eo h)
+  where
+    counted : (b : Bool) → MatchOption (cond b (Some d.states) None) (x ≡ n) (λ m. x ≡ n * m) → x ≡ length (cond b (joined t d) t).rows
+    counted true k = k ∙ ap (λ r. r * d.states) en ∙ sym (joined_count t d)
+    counted false k = k ∙ en
+
+-- an answer about the position below that position i stands for
+module _ (t : Table) (d : Dfa) where
+  asked_below : {Y : Type 0} (ask : Table → ℕ → Y) → ((i : ℕ) → ask (joined t d) i ≡ ask t (i / d.states)) → (i : ℕ) (b : Bool)
+      → ask t (option_map_or (λ n. i / n) (cond b (Some d.states) None) i) ≡ ask (cond b (joined t d) t) i
+  asked_below ask h i true = sym (h i)
+  asked_below ask h i false = refl
+
+  pub below_turn : DfaInRange d → (i : ℕ) → turn_at t (below_of t d i) ≡ turn_at (meant t d) i
+  below_turn sound i = asked_below turn_at (joined_turn t d sound) i (leb (join_size t d) 4096)
+
+  pub below_label : DfaInRange d → (i : ℕ) → label_at t (below_of t d i) ≡ label_at (meant t d) i
+  below_label sound i = asked_below label_at (joined_label t d sound) i (leb (join_size t d) 4096)
+
+  pub below_degree : DfaInRange d → (i : ℕ) → degree_at t (below_of t d i) ≡ degree_at (meant t d) i
+  below_degree sound i = asked_below degree_at (joined_degree t d sound) i (leb (join_size t d) 4096)
 
 module _ (t : Table) (d : Dfa) (sound : DfaInRange d) (m : ℕ) (e : Some m ≡ width_of t d) where
   wide : (b : Bool) → leb (join_size t d) 4096 ≡ b → Some m ≡ cond b (Some d.states) None → (m ≡ d.states) × (join_size t d ≤ 4096)
@@ -77,18 +108,6 @@ module _ (t : Table) (d : Dfa) (sound : DfaInRange d) (m : ℕ) (e : Some m ≡ 
 
   pub arrival_is : (p r s : ℕ) → r ≡ s → p * m + r ≡ p * d.states + s
   arrival_is p r s er = ap₂ (λ n x. p * n + x) width_is er
-
-  pub wide_count : length t.rows * m ≡ length (meant t d).rows
-  wide_count = ap (λ n. length t.rows * n) width_is ∙ sym (joined_count t d) ∙ sym (ap (λ j. length j.rows) is_whole)
-
-  pub wide_turn : (i : ℕ) (r : Option Turn) → r ≡ turn_at t (i / m) → r ≡ turn_at (meant t d) i
-  wide_turn i r er = er ∙ ap (λ n. turn_at t (i / n)) width_is ∙ sym (joined_turn t d sound i) ∙ sym (ap (λ j. turn_at j i) is_whole)
-
-  pub wide_label : (i : ℕ) (r : Option ℕ) → r ≡ label_at t (i / m) → r ≡ label_at (meant t d) i
-  wide_label i r er = er ∙ ap (λ n. label_at t (i / n)) width_is ∙ sym (joined_label t d sound i) ∙ sym (ap (λ j. label_at j i) is_whole)
-
-  pub wide_degree : (i : ℕ) (r : Option ℕ) → r ≡ degree_at t (i / m) → r ≡ degree_at (meant t d) i
-  wide_degree i r er = er ∙ ap (λ n. degree_at t (i / n)) width_is ∙ sym (joined_degree t d sound i) ∙ sym (ap (λ j. degree_at j i) is_whole)
 
   pub wide_rests : (i : ℕ) (r : Option Bool) → r ≡ rests_at t (i / m) → option_map (λ b. b && d.accepting (i % m)) r ≡ rests_at (meant t d) i
   wide_rests i r er =

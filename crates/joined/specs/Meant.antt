@@ -1,5 +1,6 @@
 -- What a board and a task, joined, mean: a meaning for every board and every task.
-use Rattle.std.specs.Prelude.{◌≡◌, ℕ, ◌*◌, ◌≤◌, cond, length, Some, None, Option, nat_le}
+use Rattle.std.specs.Prelude.{◌≡◌, ℕ, ◌*◌, ◌/◌, ◌≤◌, cond, length, Some, None, Option, nat_le}
+use Rattle.std.specs.Option.{option_map_or}
 use Rattle.std.proofs.lemmas.Bool.{cond_both, leb-true}
 use Rattle.board.specs.Table.{Table}
 use Rattle.board.specs.Ranges.{InRange}
@@ -29,3 +30,7 @@ pub record Room (t : Table) (d : Dfa) : Type 0 where
 -- the number of states, where the join has at most 4,096 positions
 abbrev pub width_of : Table → Dfa → Option ℕ
 width_of t d = cond (nat_le (join_size t d) 4096) (Some d.states) None
+
+-- the position below that position i stands for
+abbrev pub below_of : Table → Dfa → ℕ → ℕ
+below_of t d i = option_map_or (λ n. i / n) (width_of t d) i

@@ -5,7 +5,7 @@ ghost use Rattle.board.specs.Table.{Table, row_at};
 ghost use Rattle.task.specs.Dfa.{Dfa};
 ghost use Rattle.product.specs.Joins.{IsJoin};
 ghost use Rattle.product.specs.Product.{joined};
-ghost use Rattle.joined.specs.Meant.{join_size, meant, meant_in_range, width_of, Room};
+ghost use Rattle.joined.specs.Meant.{join_size, meant, meant_in_range, below_of, width_of, Room};
 
 use crate::pair::Joined;
 use board::{Board, Step, Turn};
@@ -19,11 +19,19 @@ const MOST_POSITIONS: u64 = 4096;
 pub fn room<B: Board, T: Task>(below: &B, task: &T) -> Result<(), Refusal>
     ensures { MatchResult result (λ _. Room (B.Board.meaning below.now) (T.Task.meaning task.now)) (λ e. (e ≡ Refusal.JoinTooLarge) × (refusal_number e ≡ 22) × (4096 < join_size (B.Board.meaning below.now) (T.Task.meaning task.now))) }
 {
-    if below.count() as u64 * task.states() as u64 <= MOST_POSITIONS {
+    if width(below, task).is_some() {
         Ok(())
     } else {
         Err(Refusal::JoinTooLarge)
     }
+}
+
+// The number of states, where the join has at most 4,096 positions.
+fn width<B: Board, T: Task>(below: &B, task: &T) -> Option<u32>
+    ensures { result ≡ width_of (B.Board.meaning below.now) (T.Task.meaning task.now) }
+{
+    let states = task.states();
+    (below.count() as u64 * states as u64 <= MOST_POSITIONS).then_some(states)
 }
 
 /// Joins a board and a task that `room` does not refuse.
@@ -41,15 +49,18 @@ impl<'a, 'b, B: Board, T: Task> Joined<'a, 'b, B, T> {
     fn width(&self) -> Option<u32>
         ensures { result ≡ width_of (B.Board.meaning self.now.below.now) (T.Task.meaning self.now.task.now) }
     {
-        let states = self.task.states();
-        if self.below.count() as u64 * states as u64 <= MOST_POSITIONS {
-            Some(states)
-        } else {
-            None
-        }
+        width(self.below, self.task)
+    }
+
+    // The position below that `p` stands for.
+    fn below_of(&self, p: u32) -> u32
+        ensures { result ≡ below_of (B.Board.meaning self.now.below.now) (T.Task.meaning self.now.task.now) p }
+    {
+        self.width().map_or(p, |width| p / width)
     }
 
     // The state after `z` reads the label of `p`.
+    #[tactic(auto, using(crate::proofs::Wide::label_there, crate::proofs::Wide::next_there))]
     fn state_after(&self, z: u32, p: u32) -> u32
         requires state { z < (T.Task.meaning self.now.task.now).states }
         requires there { p < length (B.Board.meaning self.now.below.now).rows }
@@ -60,76 +71,55 @@ impl<'a, 'b, B: Board, T: Task> Joined<'a, 'b, B, T> {
     }
 }
 
+#[tactic(auto, using(crate::proofs::Wide::below_turn, crate::proofs::Wide::below_label, crate::proofs::Wide::below_degree))]
 impl<'a, 'b, B: Board, T: Task> Board for Joined<'a, 'b, B, T> {
     ghost meaning = { λ j. meant (B.Board.meaning j.below.now) (T.Task.meaning j.task.now) };
 
     ghost ranges = { λ j. meant_in_range (B.Board.meaning j.below.now) (T.Task.meaning j.task.now) (B.Board.ranges j.below.now) (T.Task.ranges j.task.now) };
 
     fn count(&self) -> u32 {
-        match self.width() {
-            Some(width) => self.below.count() * width,
-            None => self.below.count(),
-        }
+        let count = self.below.count();
+        self.width().map_or(count, |width| count * width)
     }
 
     fn start(&self) -> u32 {
+        let p = self.below.start();
         match self.width() {
-            Some(width) => {
-                let p = self.below.start();
-                p * width + self.state_after(self.task.first(), p)
-            }
-            None => self.below.start(),
+            Some(width) => p * width + self.state_after(self.task.first(), p),
+            None => p,
         }
     }
 
     fn turn(&self, p: u32) -> Option<Turn> {
-        match self.width() {
-            Some(width) => self.below.turn(p / width),
-            None => self.below.turn(p),
-        }
+        self.below.turn(self.below_of(p))
     }
 
     fn label(&self, p: u32) -> Option<u32> {
-        match self.width() {
-            Some(width) => self.below.label(p / width),
-            None => self.below.label(p),
-        }
+        self.below.label(self.below_of(p))
     }
 
     fn rests(&self, p: u32) -> Option<bool> {
-        match self.width() {
-            Some(width) => match self.below.rests(p / width) {
-                Some(rests) => {
-                    if rests {
-                        self.task.accepting(p % width)
-                    } else {
-                        Some(false)
-                    }
-                }
-                None => None,
-            },
-            None => self.below.rests(p),
+        let Some(width) = self.width() else {
+            return self.below.rests(p)
+        };
+        let rests = self.below.rests(p / width)?;
+        if rests {
+            self.task.accepting(p % width)
+        } else {
+            Some(false)
         }
     }
 
     fn degree(&self, p: u32) -> Option<u32> {
-        match self.width() {
-            Some(width) => self.below.degree(p / width),
-            None => self.below.degree(p),
-        }
+        self.below.degree(self.below_of(p))
     }
 
     fn step(&self, p: u32, k: u32) -> Option<Step> {
-        match self.width() {
-            Some(width) => match self.below.step(p / width, k) {
-                Some(step) => Some(Step {
-                    target: step.target * width + self.state_after(p % width, step.target),
-                    bruise: step.bruise,
-                    energy: step.energy,
-                }),
-                None => None,
-            },
-            None => self.below.step(p, k),
-        }
+        let Some(width) = self.width() else {
+            return self.below.step(p, k)
+        };
+        let step = self.below.step(p / width, k)?;
+        let target = step.target * width + self.state_after(p % width, step.target);
+        Some(Step { target, ..step })
     }
 }

@@ -9,11 +9,7 @@ use board::{Board, Step, Turn};
 fn label_of(labels: &[u32], p: u32) -> u32
     ensures { result ≡ slice_index labels.now p % 65536 }
 {
-    if (p as usize) < labels.len() {
-        labels[p as usize] % 65536
-    } else {
-        0
-    }
+    labels.get(p as usize).map_or(0, |label| label % 65536)
 }
 
 impl<'a> Line<'a> {
@@ -21,10 +17,11 @@ impl<'a> Line<'a> {
     fn size(&self) -> u32
         ensures { result ≡ size_of self.now.labels.now }
     {
-        self.labels.len().min(4096).max(1) as u32
+        self.labels.len().clamp(1, 4096) as u32
     }
 }
 
+#[tactic(auto, using(crate::proofs::Rows::there, crate::specs::Line::line_count))]
 impl<'a> Board for Line<'a> {
     ghost meaning = { means };
 
@@ -39,42 +36,28 @@ impl<'a> Board for Line<'a> {
     }
 
     fn turn(&self, p: u32) -> Option<Turn> {
-        if p < self.size() {
-            Some(Turn::Arm)
-        } else {
-            None
-        }
+        (p < self.size()).then_some(Turn::Arm)
     }
 
     fn label(&self, p: u32) -> Option<u32> {
-        if p < self.size() {
-            Some(label_of(self.labels, p))
-        } else {
-            None
-        }
+        (p < self.size()).then(|| label_of(self.labels, p))
     }
 
     fn rests(&self, p: u32) -> Option<bool> {
-        if p < self.size() {
-            Some(p + 1 == self.size())
-        } else {
-            None
-        }
+        let size = self.size();
+        (p < size).then(|| p + 1 == size)
     }
 
     fn degree(&self, p: u32) -> Option<u32> {
-        if p < self.size() { Some(1) } else { None }
+        (p < self.size()).then_some(1)
     }
 
     fn step(&self, p: u32, k: u32) -> Option<Step> {
-        if p < self.size() && k == 0 {
-            Some(Step {
-                target: (p + 1).min(self.size() - 1),
-                bruise: 0,
-                energy: 1,
-            })
-        } else {
-            None
-        }
+        let size = self.size();
+        (p < size && k == 0).then(|| Step {
+            target: (p + 1).min(size - 1),
+            bruise: 0,
+            energy: 1,
+        })
     }
 }

@@ -29,11 +29,7 @@ impl<'a> Rules<'a> {
     fn list(&self) -> &'a [Rule]
         ensures { result.now ≡ take 5 self.now.rules.now }
     {
-        if self.rules.len() <= MOST_RULES {
-            self.rules
-        } else {
-            &self.rules[0..MOST_RULES]
-        }
+        &self.rules[..self.rules.len().min(MOST_RULES)]
     }
 }
 
@@ -51,18 +47,12 @@ impl<'a> Task for Rules<'a> {
     }
 
     fn next(&self, z: u32, label: u32) -> Option<u32> {
-        if z < self.states() {
-            Some(next_state(self.list(), z, label))
-        } else {
-            None
-        }
+        let rules = self.list();
+        (z < self.states()).then(|| next_state(rules, z, label))
     }
 
     fn accepting(&self, z: u32) -> Option<bool> {
-        if z < self.states() {
-            Some(state_accepts(self.list(), z))
-        } else {
-            None
-        }
+        let rules = self.list();
+        (z < self.states()).then(|| state_accepts(rules, z))
     }
 }

@@ -6,6 +6,7 @@ ghost use Rattle.rules.specs.Digits.{digit_after, digit_accepts, next_state, sta
 use entries::Rule;
 
 // Whether a label has a sign.
+#[tactic(auto, using(crate::proofs::Turns::has_past), unfolding(task::specs::Signs::has_sign))]
 fn has_sign(label: u32, sign: u32) -> bool
     ensures { result ≡ has_sign label sign }
 {
@@ -50,32 +51,24 @@ fn digit_accepts(rule: Rule, digit: u32) -> bool
 }
 
 // The state after a label: every digit turns by its own rule.
+#[tactic(auto, using(crate::proofs::Turns::next_small, crate::proofs::Turns::third_below, crate::specs::InRange::digit_below))]
 pub(crate) fn next_state(rules: &[Rule], z: u32, label: u32) -> u32
     requires few { length rules.now ≤ 5 }
     requires there { z < 3 ^ length rules.now }
     ensures { result ≡ next_state rules.now z label }
 {
-    let mut next = 0;
-    let mut place = 1;
-    let mut rest = z;
-    for rule in rules {
-        next += place * digit_after(*rule, rest % 3, label);
-        place *= 3;
-        rest /= 3;
+    match rules {
+        [] => z,
+        [rule, rest @ ..] => digit_after(*rule, z % 3, label) + 3 * next_state(rest, z / 3, label),
     }
-    next
 }
 
 // Whether every rule accepts at its digit.
 pub(crate) fn state_accepts(rules: &[Rule], z: u32) -> bool
     ensures { result ≡ state_accepts rules.now z }
 {
-    let mut rest = z;
-    for rule in rules {
-        if !digit_accepts(*rule, rest % 3) {
-            return false;
-        }
-        rest /= 3;
+    match rules {
+        [] => true,
+        [rule, rest @ ..] => digit_accepts(*rule, z % 3) && state_accepts(rest, z / 3),
     }
-    true
 }

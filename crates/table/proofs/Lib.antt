@@ -1,4 +1,2 @@
-pub mod Fitting
-pub mod Places
 pub mod Sheets
 pub mod Tests

@@ -1,6 +1,6 @@
 -- Tables that hold a board, and the test that tells them.
-use Rattle.std.specs.Prelude.{ℕ, ◌+◌, ◌≤◌, Bool, true, cond, ◌&&◌, List, [], ◌∷◌, length, take, drop, ◌==◌, nat_le, nat_lt}
-use Rattle.std.specs.List.{AllByRecursion}
+use Rattle.std.specs.Prelude.{ℕ, ◌+◌, ◌≤◌, Bool, true, cond, ◌&&◌, List, length, take, drop, ◌==◌, nat_le, nat_lt}
+use Rattle.std.specs.List.{All, list_all}
 use Rattle.board.specs.declared.parts.Turn.{Turn}
 use Rattle.board.specs.Ranges.{InRange}
 use Rattle.entries.specs.declared.Move.{Move}
@@ -11,12 +11,7 @@ use Rattle.sheet_format.specs.Lines.{is_person}
 -- the tables hold a board: it is within the ranges, and the moves of each entry lie inside the move table
 pub record TablesHold (es : List PositionEntry) (ms : List Move) (start : ℕ) : Type 0 where
   pub ranges : InRange (tables_board es ms start)
-  pub inside : AllByRecursion (λ e. e.first + e.degree ≤ length ms) es
-
--- whether all elements pass a test
-abbrev pub every : {X : Type 0} → (X → Bool) → List X → Bool
-every f [] = true
-every f (x ∷ xs) = f x && every f xs
+  pub inside : All (λ e. e.first + e.degree ≤ length ms) es
 
 -- a move to one of n positions, within the ranges, free if it is a person's
 abbrev pub move_fits : ℕ → Turn → Move → Bool
@@ -28,8 +23,8 @@ span ms e = take e.degree (drop e.first ms)
 
 -- an entry of a board of n positions
 abbrev pub entry_fits : ℕ → List Move → PositionEntry → Bool
-entry_fits n ms e = nat_lt e.position.label 65536 && (nat_le e.degree 64 && (nat_le (e.first + e.degree) (length ms) && every (move_fits n e.position.turn) (span ms e)))
+entry_fits n ms e = nat_lt e.position.label 65536 && (nat_le e.degree 64 && (nat_le (e.first + e.degree) (length ms) && list_all (move_fits n e.position.turn) (span ms e)))
 
 -- the test of two tables and a start
 abbrev pub tables_fit : List PositionEntry → List Move → ℕ → Bool
-tables_fit es ms start = nat_le (length es) 4096 && (nat_lt start (length es) && every (entry_fits (length es) ms) es)
+tables_fit es ms start = nat_le (length es) 4096 && (nat_lt start (length es) && list_all (entry_fits (length es) ms) es)

@@ -1,10 +1,11 @@
 -- Tables that pass the test hold a board within the ranges.
-use Rattle.std.specs.Prelude.{◌≡◌, ℕ, ◌+◌, ◌<◌, ◌≤◌, Bool, true, cond, ◌&&◌, List, [], ◌∷◌, map, length, drop, ◌==◌, slice_index_or}
+use Rattle.std.specs.Prelude.{◌≡◌, ℕ, ◌+◌, ◌<◌, ◌≤◌, Bool, true, cond, ◌&&◌, List, map, length, drop, ◌==◌, slice_index_or}
 use Rattle.std.proofs.Common.{sym, subst, arith}
-use Rattle.std.proofs.ByRecursion.{All-get_or, All-map, All-weaker}
+use Rattle.std.proofs.lemmas.List.Elements.{All-get_or, All-map, All-weaker}
+use Rattle.std.proofs.lemmas.List.Sums.{AllPass-from_list_all}
 use Rattle.std.proofs.lemmas.List.{length-map, length-take-le, length-drop}
 use Rattle.std.proofs.lemmas.Bool.{and_parts, leb-true, ltb-true, eqb-true}
-use Rattle.std.specs.List.{AllByRecursion}
+use Rattle.std.specs.List.{All, list_all}
 use Rattle.board.specs.declared.parts.Turn.{Turn}
 use Rattle.board.specs.declared.parts.Turn.TheVariants.{Person}
 use Rattle.board.specs.Ranges.{InRange, RowInRange, MoveInRange}
@@ -13,14 +14,11 @@ use Rattle.entries.specs.declared.Move.{Move}
 use Rattle.entries.specs.declared.PositionEntry.{PositionEntry}
 use Rattle.sheet_format.specs.Boards.{row_of, step_of, tables_board}
 use Rattle.sheet_format.specs.Lines.{is_person}
-use Rattle.table.specs.Fit.{every, move_fits, span, entry_fits, tables_fit}
+use Rattle.table.specs.Fit.{move_fits, span, entry_fits, tables_fit}
 
 -- all elements that pass a test have what it shows
-pub every_all : {X : Type 0} (f : X → Bool) (P : X → Type 0) → ((x : X) → f x ≡ true → P x) → (xs : List X) → every f xs ≡ true → AllByRecursion P xs
-every_all f P show [] h = tt
-every_all f P show (x ∷ xs) h =
-    let both = and_parts (f x) (every f xs) h in
-    (show x both.0, every_all f P show xs both.1)
+passed : {X : Type 0} (f : X → Bool) (P : X → Type 0) → ((x : X) → f x ≡ true → P x) → (xs : List X) → list_all f xs ≡ true → All P xs
+passed f P show xs h = All-weaker (λ x. f x ≡ true) P show xs (AllPass-from_list_all f xs h)
 
 person_free : (turn : Turn) (m : Move) → cond (is_person turn) (m.bruise == 0 && m.energy == 0) true ≡ true → turn ≡ Person → (m.bruise ≡ 0) × (m.energy ≡ 0)
 person_free turn m h e =
@@ -43,12 +41,12 @@ pub record EntryHolds (n : ℕ) (ms : List Move) (e : PositionEntry) : Type 0 wh
 pub length_span : (ms : List Move) (e : PositionEntry) → e.first + e.degree ≤ length ms → length (span ms e) ≡ e.degree
 length_span ms e h = length-take-le e.degree (drop e.first ms) (omega (arith, length-drop e.first ms))
 
-entry_parts : (n : ℕ) (ms : List Move) (e : PositionEntry) → entry_fits n ms e ≡ true → (e.position.label < 65536) × (e.degree ≤ 64) × (e.first + e.degree ≤ length ms) × AllByRecursion (λ m. MoveInRange n e.position.turn (step_of m)) (span ms e)
+entry_parts : (n : ℕ) (ms : List Move) (e : PositionEntry) → entry_fits n ms e ≡ true → (e.position.label < 65536) × (e.degree ≤ 64) × (e.first + e.degree ≤ length ms) × All (λ m. MoveInRange n e.position.turn (step_of m)) (span ms e)
 entry_parts n ms e h =
     let a = and_parts _ _ h in
     let b = and_parts _ _ a.1 in
     let d = and_parts _ _ b.1 in
-    (ltb-true e.position.label 65536 a.0, leb-true e.degree 64 b.0, leb-true (e.first + e.degree) (length ms) d.0, every_all (move_fits n e.position.turn) (λ m. MoveInRange n e.position.turn (step_of m)) (move_shows n e.position.turn) (span ms e) d.1)
+    (ltb-true e.position.label 65536 a.0, leb-true e.degree 64 b.0, leb-true (e.first + e.degree) (length ms) d.0, passed (move_fits n e.position.turn) (λ m. MoveInRange n e.position.turn (step_of m)) (move_shows n e.position.turn) (span ms e) d.1)
 
 pub entry_shows : (n : ℕ) (ms : List Move) (e : PositionEntry) → entry_fits n ms e ≡ true → EntryHolds n ms e
 entry_shows n ms e h =
@@ -64,13 +62,13 @@ entry_shows n ms e h =
     }
 
 -- what the test shows of tables
-fit_parts : (es : List PositionEntry) (ms : List Move) (start : ℕ) → tables_fit es ms start ≡ true → (length es ≤ 4096) × (start < length es) × AllByRecursion (EntryHolds (length es) ms) es
+fit_parts : (es : List PositionEntry) (ms : List Move) (start : ℕ) → tables_fit es ms start ≡ true → (length es ≤ 4096) × (start < length es) × All (EntryHolds (length es) ms) es
 fit_parts es ms start h =
     let a = and_parts _ _ h in
     let b = and_parts _ _ a.1 in
-    (leb-true (length es) 4096 a.0, ltb-true start (length es) b.0, every_all (entry_fits (length es) ms) (EntryHolds (length es) ms) (entry_shows (length es) ms) es b.1)
+    (leb-true (length es) 4096 a.0, ltb-true start (length es) b.0, passed (entry_fits (length es) ms) (EntryHolds (length es) ms) (entry_shows (length es) ms) es b.1)
 
-pub fit_entries : (es : List PositionEntry) (ms : List Move) (start : ℕ) → tables_fit es ms start ≡ true → AllByRecursion (EntryHolds (length es) ms) es
+pub fit_entries : (es : List PositionEntry) (ms : List Move) (start : ℕ) → tables_fit es ms start ≡ true → All (EntryHolds (length es) ms) es
 fit_entries es ms start h = (fit_parts es ms start h).2
 
 pub fit_in_range : (es : List PositionEntry) (ms : List Move) (start : ℕ) → tables_fit es ms start ≡ true → InRange (tables_board es ms start)
@@ -78,7 +76,7 @@ fit_in_range es ms start h =
     let parts = fit_parts es ms start h in
     let row : PositionEntry → Row = λ e. row_of e.position (span ms e) in
     let count : length (map row es) ≡ length es = length-map es row in
-    let rows : AllByRecursion (RowInRange (length es)) (map row es) = All-map (RowInRange (length es)) row es (All-weaker (EntryHolds (length es) ms) (λ e. RowInRange (length es) (row e)) (λ e k. k.row) es parts.2) in
+    let rows : All (RowInRange (length es)) (map row es) = All-map (RowInRange (length es)) row es (All-weaker (EntryHolds (length es) ms) (λ e. RowInRange (length es) (row e)) (λ e k. k.row) es parts.2) in
     record {
       few = omega (arith, count, parts.0);
       starts = omega (arith, count, parts.1);

@@ -1,5 +1,5 @@
 // What a table board answers.
-ghost use Rattle.std.specs.Prelude.{◌≡◌};
+ghost use Rattle.std.specs.Prelude.{◌≡◌, ◌+◌, ◌≤◌, length, IfSome};
 ghost use Rattle.std.specs.List.{slice_get};
 ghost use Rattle.table.specs.Meaning.{table_meaning, table_ranges};
 
@@ -10,14 +10,10 @@ use entries::PositionEntry;
 impl<'a> TableBoard<'a> {
     // The entry of a position.
     fn entry(&self, p: u32) -> Option<PositionEntry>
-        ensures { result ≡ slice_get self.now.entries.now p }
+        ensures value { result ≡ slice_get self.now.entries.now p }
+        ensures inside { IfSome result (λ e. e.first + e.degree ≤ length self.now.moves.now) }
     {
-        let p = p as usize;
-        if p < self.entries.len() {
-            Some(self.entries[p])
-        } else {
-            None
-        }
+        self.entries.get(p as usize).copied()
     }
 }
 
@@ -35,36 +31,29 @@ impl<'a> Board for TableBoard<'a> {
     }
 
     fn turn(&self, p: u32) -> Option<Turn> {
-        let entry = self.entry(p)?;
-        Some(entry.position.turn)
+        self.entry(p).map(|entry| entry.position.turn)
     }
 
     fn label(&self, p: u32) -> Option<u32> {
-        let entry = self.entry(p)?;
-        Some(entry.position.label)
+        self.entry(p).map(|entry| entry.position.label)
     }
 
     fn rests(&self, p: u32) -> Option<bool> {
-        let entry = self.entry(p)?;
-        Some(entry.position.rests)
+        self.entry(p).map(|entry| entry.position.rests)
     }
 
     fn degree(&self, p: u32) -> Option<u32> {
-        let entry = self.entry(p)?;
-        Some(entry.degree)
+        self.entry(p).map(|entry| entry.degree)
     }
 
     fn step(&self, p: u32, k: u32) -> Option<Step> {
         let entry = self.entry(p)?;
-        if k < entry.degree {
-            let m = self.moves[entry.first as usize + k as usize];
-            Some(Step {
-                target: m.to,
-                bruise: m.bruise,
-                energy: m.energy,
-            })
-        } else {
-            None
-        }
+        let first = entry.first as usize;
+        let moves = &self.moves[first..first + entry.degree as usize];
+        moves.get(k as usize).map(|m| Step {
+            target: m.to,
+            bruise: m.bruise,
+            energy: m.energy,
+        })
     }
 }

@@ -1,7 +1,8 @@
 // Table boards out of tables.
 ghost use Rattle.std.specs.Prelude.{◌≡◌, length};
+ghost use Rattle.std.specs.List.{list_all};
 ghost use Rattle.sheet_format.specs.Boards.{tables_board};
-ghost use Rattle.table.specs.Fit.{TablesHold, every, move_fits, entry_fits, tables_fit};
+ghost use Rattle.table.specs.Fit.{TablesHold, move_fits, entry_fits, tables_fit};
 ghost use Rattle.table.specs.Laws.{SheetsHold, TestsHold};
 ghost use Rattle.table.specs.Meaning.{board_of, idle_board, table_meaning};
 
@@ -10,6 +11,7 @@ use board::Turn;
 use entries::{Move, Position, PositionEntry};
 
 // The position table of the idle board.
+// kept: a static is made of literals, so it calls no `new`.
 static IDLE: [PositionEntry; 1] = [PositionEntry {
     position: Position {
         turn: Turn::Arm,
@@ -24,6 +26,7 @@ impl<'a> TableBoard<'a> {
     /// The board that a position table and a move table hold.
     /// They hold one where it is within the ranges and the moves of each entry lie inside the move table.
     /// Where they hold none, the answer is the idle board: one resting position of the arm, without signs or moves.
+    #[tactic(auto, using(crate::proofs::Tests::held_fit, crate::proofs::Tests::fit_held))]
     pub fn over(entries: &'a [PositionEntry], moves: &'a [Move], start: u32) -> TableBoard<'a>
         ensures means { table_meaning result ≡ board_of entries.now moves.now start }
         ensures held { TablesHold entries.now moves.now start → table_meaning result ≡ tables_board entries.now moves.now start }
@@ -61,14 +64,10 @@ fn tables_fit(entries: &[PositionEntry], moves: &[Move], start: u32) -> bool
 
 // Whether each entry is within the ranges.
 fn entries_fit(entries: &[PositionEntry], moves: &[Move]) -> bool
-    ensures { result ≡ every (entry_fits (length entries.now) moves.now) entries.now }
+    ensures { result ≡ list_all (entry_fits (length entries.now) moves.now) entries.now }
 {
-    for e in entries {
-        if !entry_fits(entries.len(), moves, *e) {
-            return false;
-        }
-    }
-    true
+    let count = entries.len();
+    entries.iter().all(|e| entry_fits(count, moves, *e))
 }
 
 // Whether an entry of a board of `count` positions is within the ranges.
@@ -77,32 +76,23 @@ fn entry_fits(count: usize, moves: &[Move], e: PositionEntry) -> bool
 {
     let first = e.first as usize;
     let degree = e.degree as usize;
-    if e.position.label < 65536 && degree <= 64 && first + degree <= moves.len() {
-        moves_fit(count, e.position.turn, &moves[first..first + degree])
-    } else {
-        false
-    }
+    e.position.label < 65536
+        && degree <= 64
+        && first + degree <= moves.len()
+        && moves_fit(count, e.position.turn, &moves[first..first + degree])
 }
 
 // Whether each move of a position is within the ranges.
 fn moves_fit(count: usize, turn: Turn, moves: &[Move]) -> bool
-    ensures { result ≡ every (move_fits count turn) moves.now }
+    ensures { result ≡ list_all (move_fits count turn) moves.now }
 {
-    for m in moves {
-        if !move_fits(count, turn, *m) {
-            return false;
-        }
-    }
-    true
+    moves.iter().all(|m| move_fits(count, turn, *m))
 }
 
 // Whether a move is within the ranges, and free if it is a person's.
 fn move_fits(count: usize, turn: Turn, m: Move) -> bool
     ensures { result ≡ move_fits count turn m }
 {
-    let free = match turn {
-        Turn::Arm => true,
-        Turn::Person => m.bruise == 0 && m.energy == 0,
-    };
+    let free = turn == Turn::Arm || m.bruise == 0 && m.energy == 0;
     (m.to as usize) < count && m.bruise <= 1000 && m.energy <= 1000000 && free
 }

@@ -21,8 +21,6 @@ pub fn room_for_both<B: Board, T: Task, U: Task>(
 ) -> Result<(), Refusal>
     ensures { MatchResult result (λ _. RoomForBoth (B.Board.meaning board.now) (T.Task.meaning first.now) (U.Task.meaning second.now)) (λ e. (e ≡ Refusal.JoinTooLarge) × (refusal_number e ≡ 22) × (4096 < length (B.Board.meaning board.now).rows * (T.Task.meaning first.now).states * (U.Task.meaning second.now).states)) }
 {
-    match room(board, first) {
-        Ok(()) => room(&join(board, first), second),
-        Err(refusal) => Err(refusal),
-    }
+    room(board, first)?;
+    room(&join(board, first), second)
 }

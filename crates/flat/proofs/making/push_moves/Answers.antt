@@ -1,16 +1,8 @@
-use Rattle.std.proofs.Common.{◌≡◌, ◌++◌, length, is_some, vec_items, ap, ◌∙◌, arith}
+use Rattle.std.proofs.Common.{◌≡◌, ◌++◌, length, vec_items, arith}
 use Rattle.board.specs.Table.{row_at}
-use Rattle.flat.proofs.Copies.{Held, held_row, held_among, unwrapped, turn_there, label_there, rests_there, degree_there, degree_is, step_there, moves_next, moves_all}
+use Rattle.flat.proofs.Copies.{Held, held_row, held_among, unwrapped, turn_there, label_there, rests_there, degree_is, moves_next, moves_all}
 use Rattle.flat.proofs.making.push_moves.Given.{Over}
 use Rattle.flat.proofs.making.push_moves.Goals as goal
-
-pub unwrap-degree-requires : goal.unwrap-degree-requires
-unwrap-degree-requires g c = ap is_some (c.degree.ensures ∙ degree_there (g.B.Board.meaning c.args.board.now) c.args.p c.requires.there)
-
-pub unwrap-requires : goal.unwrap-requires
-unwrap-requires g c =
-    ap is_some (c.step.ensures ∙ step_there (g.B.Board.meaning c.args.board.now) c.args.p c.requires.there c.loop-k.k
-    (omega (arith, degree_is (g.B.Board.meaning c.args.board.now) c.args.p c.requires.there c.degree.result c.unwrap-degree.result c.unwrap-degree.ensures c.degree.ensures)))
 
 pub loop-k-preserved : goal.loop-k-preserved
 loop-k-preserved g c =

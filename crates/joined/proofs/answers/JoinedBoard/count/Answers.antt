@@ -1,9 +1,7 @@
-use Rattle.std.proofs.Common.{◌*◌, ap, ◌∙◌}
-use Rattle.joined.proofs.Wide.{wide_count}
+use Rattle.std.proofs.Common.{rules}
+use Rattle.joined.proofs.Wide.{count_is}
 use Rattle.joined.proofs.answers.JoinedBoard.count.Goals as goal
 
-pub returns-in-Some : goal.returns-in-Some
-returns-in-Some g c =
-    ap (λ n. n * c.in-Some.width) c.count.ensures
-    ∙ wide_count (g.B.Board.meaning c.args.self.now.below.now) (g.T.Task.meaning c.args.self.now.task.now) (g.T.Task.ranges c.args.self.now.task.now)
-    c.in-Some.width c.in-Some.ensures
+pub returns : goal.returns
+returns g c =
+    count_is (g.B.Board.meaning c.args.self.now.below.now) (g.T.Task.meaning c.args.self.now.task.now) c.width.result c.count-count.result c.map_or.result c.width.ensures c.count-count.ensures (search rules)
