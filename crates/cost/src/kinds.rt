@@ -18,7 +18,7 @@ pub struct Peak {
 }
 
 /// The bruise first, then the energy.
-#[derive(Clone, Copy, PartialEq, PartialOrd)]
+#[derive(Clone, Copy)]
 pub struct Care {
     pub(crate) bruise: u32,
     pub(crate) energy: u32,
