@@ -3,7 +3,7 @@ ghost use Rattle.std.specs.Prelude.{◌≡◌, suc, ◌<◌, ◌≤◌, length};
 ghost use Rattle.cells.specs.Cells.{written_over};
 ghost use Rattle.cells.specs.Written.{Holds, Tells, round_cell};
 
-use crate::position::next_cell;
+use crate::position::Round;
 use board::Board;
 use cells::{Cell, rests_at};
 use cost::Cost;
@@ -40,9 +40,10 @@ pub(crate) fn next_cells<B: Board, C: Cost>(
     ensures cells { to.new ≡ written_over (B.meaning board.now) (round_cell C.kind (B.meaning board.now) (suc n)) to.old }
     ensures changed { Tells C.kind (B.meaning board.now) n result }
 {
+    let round = Round { board, cells: from };
     let mut changed = false;
     for p in 0..board.count() {
-        let cell = next_cell::<B, C>(board, from, p, n);
+        let cell = round.next_cell::<C>(p, n);
         changed |= cell.round > n;
         to[p as usize] = cell;
     }

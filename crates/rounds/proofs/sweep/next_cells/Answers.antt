@@ -2,8 +2,12 @@ use Rattle.std.proofs.Common.{◌≡◌, ℕ, suc, length, ap, subst, arith}
 use Rattle.cells.specs.Cells.{empty_cell}
 use Rattle.cells.specs.Written.{round_cell}
 use Rattle.cells.specs.declared.parts.Cell.{Cell}
+use Rattle.cells.proofs.Reading.{long_enough}
 use Rattle.cells.proofs.Sweeps.{front, front_more, Swept, swept_next, swept_all}
 use Rattle.rounds.proofs.sweep.next_cells.Goals as goal
+
+pub invariant_of-round : goal.invariant_of-round
+invariant_of-round g c = record { room = long_enough g.C.Cost.kind g.met.C.Cost.laws (g.B.Board.meaning c.args.board.now) c.args.n c.args.from.now c.requires.1.1 }
 
 pub loop-p-preserved : goal.loop-p-preserved
 loop-p-preserved g c =
