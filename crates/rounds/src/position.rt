@@ -43,19 +43,21 @@ impl<'a, B: Board> Round<'a, B> {
                 choice: None,
             };
         }
-        let mut value = self.move_value::<C>(p, 0);
-        let mut choice: u32 = 0;
+        let first = self.move_value::<C>(p, 0);
+        let mut lead = Lead {
+            value: first,
+            choice: Some(0),
+        };
         for m in 1..degree {
-            let next = self.move_value::<C>(p, m);
-            if better(turn, next, value) {
-                value = next;
-                choice = m;
+            let value = self.move_value::<C>(p, m);
+            if better(turn, value, lead.value) {
+                lead = Lead {
+                    value,
+                    choice: Some(m),
+                };
             }
         }
-        Lead {
-            value,
-            choice: Some(choice),
-        }
+        lead
     }
 
     // The cell of `p` after round `n + 1`, from the cells after round `n`.
