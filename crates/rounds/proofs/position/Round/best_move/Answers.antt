@@ -1,4 +1,4 @@
-use Rattle.std.proofs.Common.{◌≡◌, ℕ, not, length, Option, Some, sym, refl, ap, ◌∙◌, subst, arith}
+use Rattle.std.proofs.Common.{◌≡◌, ℕ, not, length, Option, sym, refl, ap, ◌∙◌, subst, arith}
 use Rattle.board.specs.Table.{row_at}
 use Rattle.board.specs.declared.parts.Turn.{Turn}
 use Rattle.game.specs.Plays.{degree, move_of}
