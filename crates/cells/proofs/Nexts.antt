@@ -1,5 +1,6 @@
 -- The cell of a position after the next round, one lemma for each way in which it comes about.
-use Rattle.std.proofs.Common.{◌≡◌, ℕ, zero, suc, ◌+◌, ◌<◌, true, false, List, length, get_or, Some, None, Option, sym, refl, ap, ◌∙◌, subst, arith}
+use Rattle.std.proofs.Common.{◌≡◌, ℕ, zero, suc, ◌+◌, ◌<◌, Bool, true, false, List, length, get_or, Some, None, Option, sym, refl, ap, ◌∙◌, subst, arith}
+use Rattle.std.specs.Bool.{then_some}
 use Rattle.std.specs.Option.{option_map}
 use Rattle.board.specs.Table.{Table, row_at}
 use Rattle.board.specs.declared.parts.Turn.{Turn}
@@ -44,13 +45,18 @@ module _ {C : Type 0} (k : Kind C) (laws : CostLaws k) (t : Table) where
   choice_of_person n p m = rw (m.awake, m.whose)
 
   -- the cells of round 0
-  pub first_at_rest : (p : ℕ) (z : C) (x : ℕ × ℕ) → (row_at t p).rests ≡ true → z ≡ k.zero → x ≡ k.numbers z → ◌≡◌ {A = Cell} (record { cost = Some x; choice = None; round = 0 }) (round_cell k t 0 p)
+  first_at_rest : (p : ℕ) (z : C) (x : ℕ × ℕ) → (row_at t p).rests ≡ true → z ≡ k.zero → x ≡ k.numbers z → ◌≡◌ {A = Cell} (record { cost = Some x; choice = None; round = 0 }) (round_cell k t 0 p)
   unfolding round round_choice first_round
   first_at_rest p z x rests nothing is = rw rests (same_cell (ap Some (is ∙ ap k.numbers nothing)) refl refl)
 
-  pub first_awake : (p : ℕ) → (row_at t p).rests ≡ false → ◌≡◌ {A = Cell} (record { cost = None; choice = None; round = 0 }) (round_cell k t 0 p)
+  first_awake : (p : ℕ) → (row_at t p).rests ≡ false → ◌≡◌ {A = Cell} (record { cost = None; choice = None; round = 0 }) (round_cell k t 0 p)
   unfolding round round_choice first_round
   first_awake p awake = rw awake refl
+
+  pub first_is : (p : ℕ) (b : Bool) (z : C) (x : ℕ × ℕ) (cost : Option (ℕ × ℕ)) → b ≡ (row_at t p).rests → z ≡ k.zero → x ≡ k.numbers z → cost ≡ then_some b x
+      → ◌≡◌ {A = Cell} (record { cost = cost; choice = None; round = 0 }) (round_cell k t 0 p)
+  first_is p true z x cost rests nothing is c = same_cell c refl refl ∙ first_at_rest p z x (sym rests) nothing is
+  first_is p false z x cost rests nothing is c = same_cell c refl refl ∙ first_awake p (sym rests)
 
   unchanged : (n p : ℕ) → round k t (suc n) p ≡ round k t n p → value_leq k (round k t n p) (round k t (suc n) p) ≡ true
   unchanged n p e = subst (λ v. value_leq k (round k t n p) v ≡ true) (sym e) ((values k laws).reflexive _)

@@ -1,9 +1,9 @@
 -- Writing the cells of a round one after another, and what this shows of the round.
-use Rattle.std.proofs.Common.{◌≡◌, ℕ, suc, ◌+◌, ◌<◌, ◌≤◌, Bool, true, false, List, [], ◌∷◌, ◌++◌, map, length, get_or, take, drop, set, sym, ap, ◌∙◌, subst, ⊎_elim, not-suc-le-zero, arith}
+use Rattle.std.proofs.Common.{◌≡◌, ℕ, suc, ◌+◌, ◌<◌, ◌≤◌, Bool, true, false, ◌||◌, nat_lt, List, [], ◌∷◌, ◌++◌, map, length, get_or, take, drop, set, sym, refl, ap, ◌∙◌, subst, ⊎_elim, not-suc-le-zero, arith}
 use mathlib.Core.Path.{fun_ext}
 use Rattle.std.proofs.lemmas.List.FromFn.{length-map-range_with_len, map-range_with_len_more}
 use Rattle.std.proofs.lemmas.List.{append_assoc, drop_more, set_at, take_at, drop_at}
-use Rattle.std.proofs.lemmas.Bool.{cases_Bool, cases_lt, false≢true, true≢false}
+use Rattle.std.proofs.lemmas.Bool.{cases_Bool, cases_lt, false≢true, true≢false, ltb-true, ltb-false}
 use Rattle.std.specs.List.{range_with_len}
 use Rattle.board.specs.Table.{Table}
 use Rattle.cost.specs.Kind.{Kind}
@@ -50,14 +50,23 @@ module _ {C : Type 0} (k : Kind C) (laws : CostLaws k) (t : Table) (n : ℕ) whe
   pub swept_none : Swept k t n 0 false
   swept_none = record { same = λ e q h. absurd (not-suc-le-zero h); other = λ e. absurd (false≢true e) }
 
-  pub swept_changed : (p : ℕ) → n < first_round k t (suc n) p → Swept k t n (p + 1) true
+  swept_changed : (p : ℕ) → n < first_round k t (suc n) p → Swept k t n (p + 1) true
   swept_changed p h = record { same = λ e. absurd (true≢false e); other = λ e. (p, h) }
 
-  pub swept_same : (p : ℕ) (changed : Bool) → Swept k t n p changed → first_round k t (suc n) p ≤ n → Swept k t n (p + 1) changed
+  swept_same : (p : ℕ) (changed : Bool) → Swept k t n p changed → first_round k t (suc n) p ≤ n → Swept k t n (p + 1) changed
   swept_same p changed s h = record {
     same = λ e q l. ⊎_elim (λ (b : q < p). s.same e q b) (λ (b : p ≤ q). let i : p ≡ q = omega arith in subst (λ (x : ℕ). first_round k t (suc n) x ≤ n) i h) (cases_lt q p);
     other = s.other;
   }
+
+  -- the position p has r for the first round of its value
+  pub swept_next : (p : ℕ) (changed : Bool) (r : ℕ) → r ≡ first_round k t (suc n) p → Swept k t n p changed → Swept k t n (p + 1) (changed || nat_lt n r)
+  swept_next p changed r is s = go changed (nat_lt n r) s refl
+    where
+      go : (c b : Bool) → Swept k t n p c → nat_lt n r ≡ b → Swept k t n (p + 1) (c || b)
+      go true b l e = record { same = λ f. absurd (true≢false f); other = l.other }
+      go false true l e = swept_changed p (omega (arith, is, ltb-true _ _ e))
+      go false false l e = swept_same p false l (omega (arith, is, ltb-false _ _ e))
 
   pub swept_all : (changed : Bool) → Swept k t n (length t.rows) changed → Tells k t n changed
   swept_all changed s = record { same = fixed; other = not_fixed }

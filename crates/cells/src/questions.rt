@@ -30,9 +30,5 @@ pub fn degree_at<B: Board>(board: &B, p: u32) -> u32
 pub fn step_at<B: Board>(board: &B, p: u32, m: u32) -> Step
     ensures { result ≡ move_of (B.meaning board.now) p m }
 {
-    board.step(p, m).unwrap_or(Step {
-        target: 0,
-        bruise: 0,
-        energy: 0,
-    })
+    board.step(p, m).unwrap_or_default()
 }

@@ -12,26 +12,22 @@ use cost::Cost;
 pub fn read<C: Cost>(cost: Option<(u32, u32)>) -> Option<C>
     ensures { result ≡ option_map C.kind.read cost }
 {
-    match cost {
-        Some(numbers) => Some(C::from_numbers(numbers)),
-        None => None,
-    }
+    Some(C::from_numbers(cost?))
 }
 
 /// A value as a cell keeps it.
 pub fn write<C: Cost>(value: Option<C>) -> Option<(u32, u32)>
     ensures { result ≡ option_map C.kind.numbers value }
 {
-    match value {
-        Some(cost) => Some(cost.numbers()),
-        None => None,
-    }
+    value.map(C::numbers)
 }
 
 /// Whether `x` is not above `y`.
+#[tactic(auto, unfolding(game::specs::Values::value_leq))]
 pub fn not_above<C: Cost>(x: Option<C>, y: Option<C>) -> bool
     ensures { result ≡ value_leq C.kind x y }
 {
+    // kept: a match, since none is above every cost here and below it in the order of Option
     match (x, y) {
         (_, None) => true,
         (None, Some(_)) => false,
@@ -40,6 +36,7 @@ pub fn not_above<C: Cost>(x: Option<C>, y: Option<C>) -> bool
 }
 
 /// Whether the one who moves would rather have `x` than `y`: the arm wants the least, the person the greatest.
+#[tactic(auto, unfolding(crate::specs::Leads::turn_leq))]
 pub fn better<C: Cost>(turn: Turn, x: Option<C>, y: Option<C>) -> bool
     ensures { result ≡ not (turn_leq C.kind turn y x) }
 {
@@ -50,11 +47,10 @@ pub fn better<C: Cost>(turn: Turn, x: Option<C>, y: Option<C>) -> bool
 }
 
 /// The value through a move whose target has this cost in its cell.
+#[tactic(auto, unfolding(game::specs::Values::value_add))]
 pub fn through<C: Cost>(step: Step, cost: Option<(u32, u32)>) -> Option<C>
     ensures { result ≡ value_add C.kind (charge_of C.kind step) (option_map C.kind.read cost) }
 {
-    match cost {
-        Some(numbers) => Some(C::charge(step.bruise, step.energy).plus(C::from_numbers(numbers))),
-        None => None,
-    }
+    let charge = C::charge(step.bruise, step.energy);
+    read::<C>(cost).map(|later| charge.plus(later))
 }

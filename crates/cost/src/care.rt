@@ -7,7 +7,8 @@ use crate::interface::Cost;
 use crate::kinds::Care;
 
 impl Care {
-    /// Bruise and energy as one number, which is compared faster and has the same order.
+    /// Bruise and energy as one number, which has the same order.
+    // kept: a derived order is two comparisons, and solving for the three kinds then takes 3 to 4 % longer
     fn packed(self) -> u64
         ensures { result ≡ self.bruise * 4294967296 + self.energy }
     {
@@ -15,6 +16,7 @@ impl Care {
     }
 }
 
+#[tactic(auto, using(crate::specs::CareLaws::care_same, crate::specs::CareLaws::packed_order))]
 impl Cost for Care {
     ghost kind = { care_kind };
 

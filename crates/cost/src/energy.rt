@@ -5,6 +5,7 @@ ghost use Rattle.cost.specs.EnergyLaws.{energy_laws};
 use crate::interface::Cost;
 use crate::kinds::Energy;
 
+#[tactic(auto, using(crate::specs::EnergyLaws::energy_same))]
 impl Cost for Energy {
     ghost kind = { energy_kind };
 
@@ -25,7 +26,7 @@ impl Cost for Energy {
     }
 
     fn at_most(self, other: Energy) -> bool {
-        self.spent <= other.spent
+        self <= other
     }
 
     fn numbers(self) -> (u32, u32) {

@@ -1,15 +1,17 @@
 // The three kinds of cost. A cost never passes the top, 4,294,967,295.
 ghost use Rattle.std.specs.Prelude.{◌≤◌};
 
+// kept: Energy and Peak as two types. One type over an operation would need a trait with laws of its own and two impls, as many lines as it saves.
+
 /// The energy that the moves spend, summed.
-#[derive(Clone, Copy)]
+#[derive(Clone, Copy, PartialEq, PartialOrd)]
 pub struct Energy {
     pub(crate) spent: u32,
     ghost fits: { spent ≤ 4294967295 },
 }
 
 /// The greatest energy of a move.
-#[derive(Clone, Copy)]
+#[derive(Clone, Copy, PartialEq, PartialOrd)]
 pub struct Peak {
     pub(crate) most: u32,
     ghost fits: { most ≤ 4294967295 },

@@ -5,6 +5,7 @@ ghost use Rattle.cost.specs.PeakLaws.{peak_laws};
 use crate::interface::Cost;
 use crate::kinds::Peak;
 
+#[tactic(auto, using(crate::specs::PeakLaws::peak_same))]
 impl Cost for Peak {
     ghost kind = { peak_kind };
 
@@ -19,11 +20,13 @@ impl Cost for Peak {
     }
 
     fn plus(self, later: Peak) -> Peak {
-        if self.most <= later.most { later } else { self }
+        Peak {
+            most: self.most.max(later.most),
+        }
     }
 
     fn at_most(self, other: Peak) -> bool {
-        self.most <= other.most
+        self <= other
     }
 
     fn numbers(self) -> (u32, u32) {

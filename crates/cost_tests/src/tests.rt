@@ -2,7 +2,7 @@
 use cost::{Care, Cost, Energy, Peak};
 use std::process::Abort;
 
-const TOP: u32 = 4294967295;
+const TOP: u32 = u32::MAX;
 
 // a sum: what comes first, what comes later, and what they come to
 struct Sum {
@@ -18,14 +18,10 @@ struct Compared {
     at_most: bool,
 }
 
-fn same(one: (u32, u32), other: (u32, u32)) -> bool {
-    one.0 == other.0 && one.1 == other.1
-}
-
 fn sums<C: Cost>(rt: &impl Abort, rows: &[Sum]) {
     for row in rows {
         let sum = C::from_numbers(row.first).plus(C::from_numbers(row.later));
-        assert!(rt; same(sum.numbers(), row.sum));
+        assert!(rt; sum.numbers() == row.sum);
     }
 }
 
@@ -37,9 +33,9 @@ fn comparisons<C: Cost>(rt: &impl Abort, rows: &[Compared]) {
 
 // what zero and a charge of bruise 3 and energy 7 are, and how the numbers 5 and 6 are read
 fn made<C: Cost>(rt: &impl Abort, charge: (u32, u32), read: (u32, u32)) {
-    assert!(rt; same(C::zero().numbers(), (0, 0)));
-    assert!(rt; same(C::charge(3, 7).numbers(), charge));
-    assert!(rt; same(C::from_numbers((5, 6)).numbers(), read));
+    assert!(rt; C::zero().numbers() == (0, 0));
+    assert!(rt; C::charge(3, 7).numbers() == charge);
+    assert!(rt; C::from_numbers((5, 6)).numbers() == read);
 }
 
 #[test]

@@ -1,27 +1,22 @@
 // Rounds until one changes nothing.
-ghost use Rattle.std.specs.Prelude.{◌≡◌, ◌≤◌, ◌++◌, length, take, drop, if◌then◌else◌, MatchResult};
+ghost use Rattle.std.specs.Prelude.{◌≡◌, ◌≤◌, ◌++◌, length, take, drop, MatchResult};
 ghost use Rattle.cells.specs.Cells.{solved_cells};
 ghost use Rattle.game.specs.Rounds.{NumberOfRounds};
 ghost use Rattle.refusal.specs.Number.{refusal_number};
 ghost use Rattle.rounds.specs.Room.{Room, Short};
 
-use crate::sweep::{first_cells, pass};
+use crate::sweep::{first_cells, next_cells};
 use board::Board;
 use cells::Cell;
 use cost::Cost;
 use refusal::Refusal;
 
-// Copies the first `count` cells of the list that the last round wrote to the other list.
-fn level(one: &mut [Cell], two: &mut [Cell], back: bool, count: usize)
-    requires { (count ≤ length one.old) × (count ≤ length two.old) }
-    ensures one { one.new ≡ (if back then one.old else take count two.old ++ drop count one.old) }
-    ensures two { two.new ≡ (if back then take count one.old ++ drop count two.old else two.old) }
+// Copies the first `count` cells of one list to the other.
+fn copy(from: &[Cell], to: &mut [Cell], count: usize)
+    requires { (count ≤ length from.now) × (count ≤ length to.old) }
+    ensures { to.new ≡ take count from.now ++ drop count to.old }
 {
-    if back {
-        two[0..count].copy_from_slice(&one[0..count]);
-    } else {
-        one[0..count].copy_from_slice(&two[0..count]);
-    }
+    to[..count].copy_from_slice(&from[..count]);
 }
 
 // Rounds to the fixed point: how many there are, and the final cells in both lists.
@@ -31,15 +26,20 @@ fn settle<B: Board, C: Cost>(board: &B, one: &mut [Cell], two: &mut [Cell]) -> u
     ensures one { one.new ≡ solved_cells C.kind (B.meaning board.now) result one.old }
     ensures two { two.new ≡ solved_cells C.kind (B.meaning board.now) result two.old }
 {
+    let count = board.count() as usize;
     first_cells::<B, C>(board, one);
     let mut n: u32 = 0;
-    let mut back = false;
-    while pass::<B, C>(board, one, two, back, n) {
-        n += 1;
-        back = !back;
+    loop {
+        if !next_cells::<B, C>(board, one, two, n) {
+            copy(two, one, count);
+            return n;
+        }
+        if !next_cells::<B, C>(board, two, one, n + 1) {
+            copy(one, two, count);
+            return n + 1;
+        }
+        n += 2;
     }
-    level(one, two, back, board.count() as usize);
-    n
 }
 
 /// The number of rounds, with the final cells written to both lists; cells past the count keep what they held.

@@ -1,9 +1,9 @@
 // One round over all positions: one list is read, the other written.
-ghost use Rattle.std.specs.Prelude.{◌≡◌, suc, ◌<◌, ◌≤◌, length, if◌then◌else◌};
+ghost use Rattle.std.specs.Prelude.{◌≡◌, suc, ◌<◌, ◌≤◌, length};
 ghost use Rattle.cells.specs.Cells.{written_over};
 ghost use Rattle.cells.specs.Written.{Holds, Tells, round_cell};
 
-use crate::position::next_cell;
+use crate::position::Round;
 use board::Board;
 use cells::{Cell, rests_at};
 use cost::Cost;
@@ -12,15 +12,8 @@ use cost::Cost;
 fn first_cell<B: Board, C: Cost>(board: &B, p: u32) -> Cell
     ensures { result ≡ round_cell C.kind (B.meaning board.now) 0 p }
 {
-    if rests_at(board, p) {
-        return Cell {
-            cost: Some(C::zero().numbers()),
-            choice: None,
-            round: 0,
-        };
-    }
     Cell {
-        cost: None,
+        cost: rests_at(board, p).then_some(C::zero().numbers()),
         choice: None,
         round: 0,
     }
@@ -37,38 +30,22 @@ pub(crate) fn first_cells<B: Board, C: Cost>(board: &B, to: &mut [Cell])
 }
 
 // Writes the cells after round `n + 1` from those after round `n`; whether the round changed a value.
-fn next_cells<B: Board, C: Cost>(board: &B, from: &[Cell], to: &mut [Cell], n: u32) -> bool
+pub(crate) fn next_cells<B: Board, C: Cost>(
+    board: &B,
+    from: &[Cell],
+    to: &mut [Cell],
+    n: u32,
+) -> bool
     requires { (n < 4294967295) × ((length (B.meaning board.now).rows ≤ length to.old) × (Holds C.kind (B.meaning board.now) n from.now)) }
     ensures cells { to.new ≡ written_over (B.meaning board.now) (round_cell C.kind (B.meaning board.now) (suc n)) to.old }
     ensures changed { Tells C.kind (B.meaning board.now) n result }
 {
+    let round = Round { board, cells: from };
     let mut changed = false;
     for p in 0..board.count() {
-        let cell = next_cell::<B, C>(board, from, p, n);
-        if cell.round > n {
-            changed = true;
-        }
+        let cell = round.next_cell::<C>(p, n);
+        changed |= cell.round > n;
         to[p as usize] = cell;
     }
     changed
-}
-
-// One more round: from the second list to the first, or from the first to the second.
-pub(crate) fn pass<B: Board, C: Cost>(
-    board: &B,
-    one: &mut [Cell],
-    two: &mut [Cell],
-    back: bool,
-    n: u32,
-) -> bool
-    requires { (n < 4294967295) × ((length (B.meaning board.now).rows ≤ length one.old) × ((length (B.meaning board.now).rows ≤ length two.old) × (Holds C.kind (B.meaning board.now) n (if back then two.old else one.old)))) }
-    ensures one { one.new ≡ (if back then written_over (B.meaning board.now) (round_cell C.kind (B.meaning board.now) (suc n)) one.old else one.old) }
-    ensures two { two.new ≡ (if back then two.old else written_over (B.meaning board.now) (round_cell C.kind (B.meaning board.now) (suc n)) two.old) }
-    ensures changed { Tells C.kind (B.meaning board.now) n result }
-{
-    if back {
-        next_cells::<B, C>(board, two, one, n)
-    } else {
-        next_cells::<B, C>(board, one, two, n)
-    }
 }

@@ -72,8 +72,8 @@ impl<'a, C> Plan<'a, C> {
     pub fn cell(&self, p: u32) -> Option<Cell>
         ensures { result ≡ slice_get (take self.now.count self.now.cells.now) p }
     {
-        if p < self.count && (p as usize) < self.cells.len() {
-            Some(self.cells[p as usize])
+        if p < self.count {
+            self.cells.get(p as usize).copied()
         } else {
             None
         }
@@ -83,17 +83,14 @@ impl<'a, C> Plan<'a, C> {
     pub fn planned(&self, p: u32) -> Cell
         ensures { result ≡ plan_cell self.now.count self.now.cells.now p }
     {
-        self.cell(p).unwrap_or(Cell {
-            cost: None,
-            choice: None,
-            round: 0,
-        })
+        self.cell(p).unwrap_or_default()
     }
 
     /// Ends the plan, and gives its list back.
     pub fn close(self) -> &'a [Cell]
         ensures { result ≡ self.entry.cells }
     {
+        // kept: each field by name, since a plan is not dropped and `..` would drop the rest
         let Plan {
             cells: list,
             count: _,

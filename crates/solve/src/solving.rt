@@ -20,13 +20,8 @@ fn judge<C: Cost>(value: Option<C>, budget: C) -> Verdict
     ensures { result ≡ verdict_of C.kind budget value }
 {
     match value {
-        Some(cost) => {
-            if cost.at_most(budget) {
-                Verdict::Within
-            } else {
-                Verdict::Over
-            }
-        }
+        Some(cost) if cost.at_most(budget) => Verdict::Within,
+        Some(_) => Verdict::Over,
         None => Verdict::Never,
     }
 }
@@ -45,6 +40,7 @@ pub fn solve<'a, B: Board, C: Cost>(
     ensures other { MatchResult result (λ p. two.new ≡ solved_cells C.kind (B.meaning board.now) p.rounds two.old) (λ _. two.new ≡ two.old) }
     ensures when { MatchResult result (λ _. Room (B.meaning board.now) one.old two.old) (λ _. Short (B.meaning board.now) one.old two.old) }
 {
+    // kept: a match, since a closure for `map_err` would take `one`
     match final_cells::<B, C>(board, one, two) {
         Ok(rounds) => {
             let budget = C::charge(bruise, energy);

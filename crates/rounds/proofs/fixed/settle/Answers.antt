@@ -1,52 +1,67 @@
-use Rattle.std.proofs.Common.{◌≡◌, ℕ, ◌<◌, ◌≤◌, cond, ◌++◌, length, take, drop, refl, ◌∙◌, subst, ⊎_elim, not-suc-le-zero, arith}
-use Rattle.std.proofs.lemmas.Bool.{cases_lt}
+use Rattle.std.proofs.Common.{◌≡◌, ℕ, ◌+◌, suc, ◌++◌, take, drop, ◌∙◌, subst, arith}
+use borrow.Author.Count.{below_more}
 use Rattle.game.specs.Rounds.{FixedPoint}
 use Rattle.cells.specs.Written.{round_cell}
-use Rattle.cells.proofs.Alternate.{over_holds, over_drop, over_length, pass_holds, drop_one, drop_two, length_one, length_two, one_solved, two_solved}
+use Rattle.cells.proofs.Alternate.{over_holds, over_next, over_drop, written, copied}
 use Rattle.cells.proofs.Sweeps.{changed_few}
 use Rattle.rounds.proofs.fixed.settle.Goals as goal
 
-pub loop-n-init : goal.loop-n-init
-loop-n-init g c = (omega arith, over_holds g.C.Cost.kind (g.B.Board.meaning c.args.board.now) 0 c.args.one.now c.first_cells.new.to c.first_cells.ensures, refl, refl, refl, refl, λ m h. absurd (not-suc-le-zero h))
-
-pub loop-n-smaller : goal.loop-n-smaller
-loop-n-smaller g c =
-    omega (arith, changed_few g.C.Cost.kind g.met.C.Cost.laws (g.B.Board.meaning c.args.board.now) c.loop-n.n (c.pass.ensures.changed.other c.loop-n-test.true))
-
-pub loop-n-preserved : goal.loop-n-preserved
-loop-n-preserved g c =
+pub returns-then-not-next_cells-clause-one : goal.returns-then-not-next_cells-clause-one
+returns-then-not-next_cells-clause-one g c =
     let t = g.B.Board.meaning c.args.board.now in
     let k = g.C.Cost.kind in
-    let n = c.loop-n.n in
-    let changed = c.pass.ensures.changed.other c.loop-n-test.true in
-    let inv = c.loop-n.invariant in
-    let room-one : length t.rows ≤ length c.loop-n.one = omega (arith, inv.4, c.requires.0, over_length k t (round_cell k t 0) c.args.one.now c.first_cells.new.to c.requires.0 c.first_cells.ensures) in
-    let room-two : length t.rows ≤ length c.loop-n.two = omega (arith, inv.5, c.requires.1) in (
-      omega (arith, changed_few k g.met.C.Cost.laws t n changed),
-      pass_holds k t n c.loop-n.back c.loop-n.one c.loop-n.two c.pass.new.one c.pass.new.two c.pass.ensures.one c.pass.ensures.two,
-      drop_one k t n c.loop-n.back c.loop-n.one c.pass.new.one c.pass.ensures.one ∙ inv.2,
-      drop_two k t n c.loop-n.back c.loop-n.two c.pass.new.two c.pass.ensures.two ∙ inv.3,
-      length_one k t n c.loop-n.back c.loop-n.one c.pass.new.one room-one c.pass.ensures.one ∙ inv.4,
-      length_two k t n c.loop-n.back c.loop-n.two c.pass.new.two room-two c.pass.ensures.two ∙ inv.5,
-      λ m h fixed. ⊎_elim (λ (l : m < n). inv.6 m l fixed) (λ (l : n ≤ m). let same : m ≡ n = omega arith in changed (subst (λ (i : ℕ). FixedPoint k t i) same fixed)) (cases_lt m n),
+    let n = c.loop-two.n in
+    let two = c.next_cells.new.to in
+    copied k g.met.C.Cost.laws t n (c.next_cells.ensures.changed.same c.if-not-next_cells.true) c.args.one.now c.loop-two.one two c.copy.new.to c.loop-two.invariant.rest_one (over_holds k t (suc n) c.loop-two.two two c.next_cells.ensures.cells)
+    (subst (λ (m : ℕ). c.copy.new.to ≡ take m two ++ drop m c.loop-two.one) c.count-count.ensures c.copy.ensures)
+
+pub returns-then-not-next_cells-clause-two : goal.returns-then-not-next_cells-clause-two
+returns-then-not-next_cells-clause-two g c =
+    let t = g.B.Board.meaning c.args.board.now in
+    written g.C.Cost.kind g.met.C.Cost.laws t c.loop-two.n (c.next_cells.ensures.changed.same c.if-not-next_cells.true) c.args.two.now c.loop-two.two c.next_cells.new.to c.loop-two.invariant.rest_two c.next_cells.ensures.cells
+
+pub next_cells-requires-in-loop-two : goal.next_cells-requires-in-loop-two
+next_cells-requires-in-loop-two g c =
+    let t = g.B.Board.meaning c.args.board.now in
+    let k = g.C.Cost.kind in
+    let n = c.loop-two.n in
+    let changed = c.next_cells.ensures.changed.other c.if-not-next_cells.false in (
+      omega (arith, changed_few k g.met.C.Cost.laws t n changed, (g.B.Board.ranges c.args.board.now).few),
+      (omega arith, over_next k t n (n + 1) c.loop-two.two c.next_cells.new.to (omega arith) c.next_cells.ensures.cells),
     )
 
-pub returns : goal.returns
-returns g c =
+pub returns-then-not-next_cells-2-clause-one : goal.returns-then-not-next_cells-2-clause-one
+returns-then-not-next_cells-2-clause-one g c =
+    let t = g.B.Board.meaning c.args.board.now in
+    written g.C.Cost.kind g.met.C.Cost.laws t (c.loop-two.n + 1) (c.next_cells-in-loop-two.ensures.changed.same c.if-not-next_cells-2.true) c.args.one.now c.loop-two.one c.next_cells-in-loop-two.new.to c.loop-two.invariant.rest_one c.next_cells-in-loop-two.ensures.cells
+
+pub returns-then-not-next_cells-2-clause-two : goal.returns-then-not-next_cells-2-clause-two
+returns-then-not-next_cells-2-clause-two g c =
     let t = g.B.Board.meaning c.args.board.now in
     let k = g.C.Cost.kind in
-    let n = c.loop-n.n in
-    let back = c.loop-n.back in
-    let one = c.pass.new.one in
-    let two = c.pass.new.two in
-    let fixed = c.pass.ensures.changed.same c.loop-n-test.false in
-    let first = over_drop k t (round_cell k t 0) c.args.one.now c.first_cells.new.to c.first_cells.ensures in
-    let old-one = c.loop-n.invariant.2 ∙ first in
-    let old-two = c.loop-n.invariant.3 in
+    let n = c.loop-two.n in
+    let two = c.next_cells.new.to in
+    let one = c.next_cells-in-loop-two.new.to in
+    copied k g.met.C.Cost.laws t (n + 1) (c.next_cells-in-loop-two.ensures.changed.same c.if-not-next_cells-2.true) c.args.two.now two one c.copy-then-not-next_cells-2.new.to
+    (over_drop k t (round_cell k t (suc n)) c.loop-two.two two c.next_cells.ensures.cells ∙ c.loop-two.invariant.rest_two) (over_holds k t (suc (n + 1)) c.loop-two.one one c.next_cells-in-loop-two.ensures.cells)
+    (subst (λ (m : ℕ). c.copy-then-not-next_cells-2.new.to ≡ take m one ++ drop m two) c.count-count.ensures c.copy-then-not-next_cells-2.ensures)
+
+pub loop-two-smaller : goal.loop-two-smaller
+loop-two-smaller g c =
+    omega (arith, changed_few g.C.Cost.kind g.met.C.Cost.laws (g.B.Board.meaning c.args.board.now) c.loop-two.n (c.next_cells.ensures.changed.other c.if-not-next_cells.false))
+
+pub loop-two-preserved : goal.loop-two-preserved
+loop-two-preserved g c =
+    let t = g.B.Board.meaning c.args.board.now in
+    let k = g.C.Cost.kind in
+    let n = c.loop-two.n in
+    let changed = c.next_cells.ensures.changed.other c.if-not-next_cells.false in
+    let again = c.next_cells-in-loop-two.ensures.changed.other c.if-not-next_cells-2.false in
+    let unfixed : ℕ → Type 0 = λ m. FixedPoint k t m → ⊥ in
     record {
-      rounds = record { fixed = fixed; least = c.loop-n.invariant.6 };
-      one = one_solved k g.met.C.Cost.laws t n fixed back c.args.one.now c.loop-n.one c.loop-n.two one two c.level.new.one (drop_one k t n back c.loop-n.one one c.pass.ensures.one ∙ old-one) old-one c.pass.ensures.one c.pass.ensures.two
-          (subst (λ (m : ℕ). c.level.new.one ≡ cond back one (take m two ++ drop m one)) c.count.ensures c.level.ensures.one);
-      two = two_solved k g.met.C.Cost.laws t n fixed back c.args.two.now c.loop-n.one c.loop-n.two one two c.level.new.two (drop_two k t n back c.loop-n.two two c.pass.ensures.two ∙ old-two) old-two c.pass.ensures.one c.pass.ensures.two
-          (subst (λ (m : ℕ). c.level.new.two ≡ cond back (take m one ++ drop m two) two) c.count.ensures c.level.ensures.two);
+      few = omega (arith, changed_few k g.met.C.Cost.laws t (n + 1) again);
+      holds = over_next k t (n + 1) (n + 2) c.loop-two.one c.next_cells-in-loop-two.new.to (omega arith) c.next_cells-in-loop-two.ensures.cells;
+      rest_one = over_drop k t (round_cell k t (suc (n + 1))) c.loop-two.one c.next_cells-in-loop-two.new.to c.next_cells-in-loop-two.ensures.cells ∙ c.loop-two.invariant.rest_one;
+      rest_two = over_drop k t (round_cell k t (suc n)) c.loop-two.two c.next_cells.new.to c.next_cells.ensures.cells ∙ c.loop-two.invariant.rest_two;
+      not_yet = λ m h. below_more unfixed (n + 1) (below_more unfixed n c.loop-two.invariant.not_yet changed) again m (omega arith);
     }
