@@ -1,15 +1,28 @@
 // A desk of lines.
-ghost use Rattle.std.specs.Prelude.{◌≡◌, true};
+ghost use Rattle.std.specs.Prelude.{◌≡◌, [], ◌∷◌, ◌++◌, IfOk, IfErr};
+ghost use Rattle.std.specs.Option.{option_to_list, option_flatten};
+ghost use Rattle.std.specs.Result.{result_ok};
+ghost use Rattle.console.specs.declared.desk.State.TheVariants.{Failed};
 
 use dialog::{BegunText, Command, EndText, NoteText, command};
 use game::Event;
 use refusal::Refusal;
-use session::{Desk, Ending, Shown};
+use session::{Cut, Desk, Ending, Shown};
 use std::alloc::Global;
 use std::fmt::Display;
 use std::io;
 use std::io::{BufRead, Write};
 use wording::{CostKind, RefusalText};
+
+// What a console has come to.
+#[derive(Clone, Copy, PartialEq)]
+enum State {
+    Open,
+    // `end` was read
+    Ended,
+    // reading, printing or keeping has failed
+    Failed,
+}
 
 /// Lines in, lines out. It keeps the events that it has told, and what it was shown.
 #[derive(Drop)]
@@ -20,10 +33,7 @@ pub struct Console<R: Drop, W: Drop> {
     output: W,
     told: Vec<Event>,
     log: Vec<Shown>,
-    // `end` was read
-    ended: bool,
-    // reading, printing or keeping has failed
-    failed: bool,
+    state: State,
 }
 
 // Prints a line, and sees that it goes out.
@@ -39,12 +49,7 @@ fn read_line<R: BufRead>(heap: Global, input: &mut R) -> io::Result<Option<Comma
         return Ok(None);
     }
     let bytes = line.as_slice();
-    let n = bytes.len();
-    if n > 0 && bytes[n - 1] == b'\n' {
-        Ok(Some(command(&bytes[0..n - 1])))
-    } else {
-        Ok(Some(command(bytes)))
-    }
+    Ok(Some(command(bytes.strip_suffix(b"\n").unwrap_or(bytes))))
 }
 
 impl<R: BufRead + Drop, W: Write + Drop> Console<R, W> {
@@ -57,37 +62,77 @@ impl<R: BufRead + Drop, W: Write + Drop> Console<R, W> {
             output,
             told: Vec::new(heap),
             log: Vec::new(heap),
-            ended: false,
-            failed: false,
+            state: State::Open,
         }
     }
 
-    // Prints a line, or notes that it failed.
-    fn print<D: Display + Drop>(&mut self, text: D)
+    // What was done, or none where it failed, which is noted.
+    fn noted<T: Drop>(&mut self, outcome: io::Result<T>) -> Option<T>
         ensures told { self.new.told ≡ self.old.told }
         ensures log { self.new.log ≡ self.old.log }
+        ensures value { result ≡ result_ok outcome }
+        ensures failed { IfErr outcome (λ _. self.new.state ≡ Failed) }
     {
-        if say(&mut self.output, text).is_err() {
-            self.failed = true;
+        if outcome.is_err() {
+            self.state = State::Failed;
         }
+        outcome.ok()
+    }
+
+    // Prints a line, or notes that it failed.
+    fn print<D: Display + Drop>(&mut self, text: D) {
+        let printed = say(&mut self.output, text);
+        let _ = self.noted(printed);
+    }
+
+    // Reads lines up to one that tells an event, and keeps it; none at `end`, or at the end of the input.
+    fn read(&mut self) -> io::Result<Option<Event>>
+        ensures told { self.new.told.items ≡ self.old.told.items ++ option_to_list (option_flatten (result_ok result)) }
+        ensures log { self.new.log.items ≡ self.old.log.items }
+    {
+        for _ in 0..u64::MAX {
+            match read_line(self.heap, &mut self.input)? {
+                Some(Command::Told(event)) => {
+                    self.told.push(event)?;
+                    return Ok(Some(event));
+                }
+                Some(Command::End) => {
+                    self.state = State::Ended;
+                    return Ok(None);
+                }
+                Some(Command::Unreadable) => say(&mut self.output, "unreadable")?,
+                None => return Ok(None),
+            }
+        }
+        Ok(None)
+    }
+
+    // Prints what was shown, and keeps it.
+    fn keep(&mut self, shown: Shown) -> io::Result<()>
+        ensures told { self.new.told ≡ self.old.told }
+        ensures log { IfOk result (λ _. self.new.log.items ≡ self.old.log.items ++ (shown ∷ [])) }
+    {
+        let kind = self.kind;
+        match shown {
+            Shown::Begun(progress) => say(&mut self.output, BegunText { kind, progress })?,
+            Shown::Answered(note) => say(&mut self.output, NoteText { kind, note })?,
+        }
+        self.log.push(shown)?;
+        Ok(())
     }
 
     /// Prints how the session ended: where the run was, if `end` was read, or why none began.
     pub fn finish(&mut self, ending: Ending) -> io::Result<()> {
+        let kind = self.kind;
         match ending {
-            Ending::Ended(progress) => {
-                if self.ended {
-                    let text = EndText {
-                        kind: self.kind,
-                        progress,
-                    };
-                    self.print(text);
-                }
+            Ending::Ended(progress) if self.state == State::Ended => {
+                self.print(EndText { kind, progress })
             }
+            Ending::Ended(_) => (),
             Ending::NotBegun(refusal) => self.refuse(refusal),
-            Ending::Cut => self.failed = true,
+            Ending::Cut => self.state = State::Failed,
         }
-        if self.failed {
+        if self.state == State::Failed {
             return Err(io::Error::other("reading, printing or memory failed"));
         }
         Ok(())
@@ -107,45 +152,15 @@ impl<R: BufRead + Drop, W: Write + Drop> Desk for Console<R, W> {
     // nothing tells that the input is at its end
     ghost closed = { λ _. Unit {0} };
 
-    ghost broken = { λ c. c.failed ≡ true };
+    ghost broken = { λ c. c.state ≡ Failed };
 
     fn next(&mut self) -> Option<Event> {
-        for _ in 0..u64::MAX {
-            if self.failed {
-                return None;
-            }
-            match read_line(self.heap, &mut self.input) {
-                Ok(Some(Command::Told(event))) => {
-                    if self.told.push(event).is_err() {
-                        self.failed = true;
-                        return None;
-                    }
-                    return Some(event);
-                }
-                Ok(Some(Command::End)) => {
-                    self.ended = true;
-                    return None;
-                }
-                Ok(Some(Command::Unreadable)) => self.print("unreadable"),
-                Ok(None) => return None,
-                Err(_) => {
-                    self.failed = true;
-                    return None;
-                }
-            }
-        }
-        None
+        let read = self.read();
+        self.noted(read).flatten()
     }
 
-    fn show(&mut self, shown: Shown) -> bool {
-        let kind = self.kind;
-        match shown {
-            Shown::Begun(progress) => self.print(BegunText { kind, progress }),
-            Shown::Answered(note) => self.print(NoteText { kind, note }),
-        }
-        if self.log.push(shown).is_err() {
-            self.failed = true;
-        }
-        !self.failed
+    fn show(&mut self, shown: Shown) -> Result<(), Cut> {
+        let kept = self.keep(shown);
+        self.noted(kept).ok_or(Cut)
     }
 }

@@ -3,7 +3,6 @@ use crate::desk::Console;
 use board::Board;
 use cells::Cell;
 use cost::{Care, Energy, Peak};
-use flat::FlatBoard;
 use load::{Bench, LoadError, load};
 use session::{Served, serve};
 use std::alloc::{AllocError, Global};
@@ -18,16 +17,11 @@ fn follow_kind<C: Named, R: BufRead + Drop, W: Write + Drop>(
     input: R,
     output: W,
 ) -> io::Result<()> {
-    let empty = Cell {
-        cost: None,
-        choice: None,
-        round: 0,
-    };
     let count = bench.board.count() as usize;
-    let mut one = vec![in heap; empty; count]?;
-    let mut two = vec![in heap; empty; count]?;
+    let mut one = vec![in heap; Cell::default(); count]?;
+    let mut two = vec![in heap; Cell::default(); count]?;
     let mut console = Console::new(heap, C::cost_kind(), input, output);
-    match serve::<FlatBoard, C, Console<R, W>>(
+    match serve::<_, C, _>(
         &bench.board,
         bench.start.bruise,
         bench.start.energy,
@@ -35,8 +29,7 @@ fn follow_kind<C: Named, R: BufRead + Drop, W: Write + Drop>(
         two.as_mut_slice(),
         &mut console,
     ) {
-        Ok(served) => {
-            let Served { plan, ending } = served;
+        Ok(Served { plan, ending }) => {
             let _ = plan.close();
             console.finish(ending)
         }
@@ -56,6 +49,7 @@ pub fn follow<R: BufRead + Drop, W: Write + Drop>(
     mut output: W,
 ) -> io::Result<()> {
     match load(heap, sheet) {
+        // kept: here the word picks the type
         Ok(bench) => match kind {
             CostKind::Energy => follow_kind::<Energy, R, W>(heap, &bench, input, output),
             CostKind::Peak => follow_kind::<Peak, R, W>(heap, &bench, input, output),

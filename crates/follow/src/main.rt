@@ -1,7 +1,7 @@
 //! Follows a run on the board of a sheet: `follow KIND SHEETFILE`, and then one event a line on standard input, each answered at once.
 #![tactic(auto)]
 
-use anyhow::anyhow;
+use anyhow::bail;
 use console::follow;
 use std::io::{BufReader, Read};
 use std::{env, fs};
@@ -10,16 +10,16 @@ use wording::CostKind;
 // One byte more than a sheet may have, so that a longer one is seen.
 const MOST_BYTES: u64 = 65537;
 
-fn run(rt: &HostRuntime) -> anyhow::Result<()> {
-    let mut args = env::args(rt)?.skip(1);
+fn main(rt: HostRuntime) -> anyhow::Result<()> {
+    let mut args = env::args(&rt)?.skip(1);
     let (Some(kind), Some(file), None) = (args.next(), args.next(), args.next()) else {
-        return Err(anyhow!("usage: follow KIND SHEETFILE"));
+        bail!("usage: follow KIND SHEETFILE");
     };
     let Some(kind) = CostKind::of(kind.as_str()) else {
-        return Err(anyhow!("the kind is energy, peak or care"));
+        bail!("the kind is energy, peak or care");
     };
     let mut sheet: Vec<u8> = Vec::new(rt.alloc());
-    fs::open(rt, file.as_str())?
+    fs::open(&rt, file.as_str())?
         .take(MOST_BYTES)
         .read_to_end(&mut sheet)?;
     follow(
@@ -30,8 +30,4 @@ fn run(rt: &HostRuntime) -> anyhow::Result<()> {
         rt.stdout(),
     )?;
     Ok(())
-}
-
-fn main(rt: HostRuntime) -> anyhow::Result<()> {
-    run(&rt)
 }

@@ -25,38 +25,37 @@ pub(crate) fn phase_at<B: Board>(board: &B, p: u32) -> Phase
     }
 }
 
+// Why no run begins on a board by a plan of this count and verdict; none where one does.
+fn refusal<B: Board>(board: &B, count: u32, verdict: Verdict) -> Option<Refusal>
+    ensures { result ≡ begin_refusal (B.meaning board.now) count verdict }
+{
+    if board.count() != count {
+        return Some(Refusal::OtherCount);
+    }
+    match verdict {
+        Verdict::Within => None,
+        Verdict::Over => Some(Refusal::OverBudget),
+        Verdict::Never => Some(Refusal::NeverDone),
+    }
+}
+
 impl<'a, C: Cost> Run<'a, C> {
     /// Begins a run: it takes the plan, stands at the plan's start, has spent nothing and made no move.
     /// It is refused where the board's count is not the plan's, and then where the verdict is not within. A refusal hands the plan back.
     pub fn begin<B: Board>(plan: Plan<'a, C>, board: &B) -> Result<Run<'a, C>, Unbegun<'a, C>>
         ensures { MatchResult result (λ u. (begin_refusal (B.meaning board.now) plan.entry.count plan.entry.verdict ≡ None) × (u.plan ≡ plan.entry) × (u.progress ≡ begun (on_numbers C.kind) (B.meaning board.now) plan.entry.start)) (λ e. (begin_refusal (B.meaning board.now) plan.entry.count plan.entry.verdict ≡ Some e.why) × (e.plan ≡ plan.entry)) }
     {
-        if board.count() != plan.count() {
-            return Err(Unbegun {
-                why: Refusal::OtherCount,
-                plan,
-            });
+        if let Some(why) = refusal(board, plan.count(), plan.verdict()) {
+            return Err(Unbegun { why, plan });
         }
-        match plan.verdict() {
-            Verdict::Within => {
-                let position = plan.start();
-                let progress = Progress {
-                    position,
-                    spent: C::zero().numbers(),
-                    made: 0,
-                    phase: phase_at(board, position),
-                };
-                Ok(Run { plan, progress })
-            }
-            Verdict::Over => Err(Unbegun {
-                why: Refusal::OverBudget,
-                plan,
-            }),
-            Verdict::Never => Err(Unbegun {
-                why: Refusal::NeverDone,
-                plan,
-            }),
-        }
+        let position = plan.start();
+        let progress = Progress {
+            position,
+            spent: C::zero().numbers(),
+            made: 0,
+            phase: phase_at(board, position),
+        };
+        Ok(Run { plan, progress })
     }
 
     /// How far the run has come.

@@ -19,16 +19,8 @@ use refusal::Refusal;
 fn if_there<B: Board>(board: &B, p: u32, m: Option<u32>) -> Option<u32>
     ensures { result ≡ if_there (B.meaning board.now) p m }
 {
-    match m {
-        Some(m) => {
-            if m < degree_at(board, p) {
-                Some(m)
-            } else {
-                None
-            }
-        }
-        None => None,
-    }
+    let degree = degree_at(board, p);
+    m.filter(|m| *m < degree)
 }
 
 impl<'a, C: Cost> Run<'a, C> {
@@ -67,28 +59,22 @@ impl<'a, C: Cost> Run<'a, C> {
         }
         match (self.progress.phase, event) {
             (Phase::Ended, _) => Err(Refusal::RunEnded),
-            (Phase::ArmTurn, Event::Go) => match self.chosen(board) {
-                Some(m) => {
-                    self.progress.phase = Phase::Moving;
-                    Ok(Answer::Begins(m))
-                }
-                None => Err(Refusal::NoSuchMove),
-            },
-            (Phase::Moving, Event::There) => match self.chosen(board) {
-                Some(m) => {
-                    self.make(board, m);
-                    Ok(Answer::Made)
-                }
-                None => Err(Refusal::NoSuchMove),
-            },
+            (Phase::ArmTurn, Event::Go) => {
+                let next = self.chosen(board).ok_or(Refusal::NoSuchMove)?;
+                self.progress.phase = Phase::Moving;
+                Ok(Answer::Begins(next))
+            }
+            (Phase::Moving, Event::There) => {
+                let m = self.chosen(board).ok_or(Refusal::NoSuchMove)?;
+                self.make(board, m);
+                Ok(Answer::Made)
+            }
             (Phase::PersonTurn, Event::Hand(k)) => {
-                match if_there(board, self.progress.position, Some(k)) {
-                    Some(m) => {
-                        self.make(board, m);
-                        Ok(Answer::Made)
-                    }
-                    None => Err(Refusal::NoSuchMove),
-                }
+                let m = if_there(board, self.progress.position, Some(k)).ok_or(
+                    Refusal::NoSuchMove,
+                )?;
+                self.make(board, m);
+                Ok(Answer::Made)
             }
             _ => Err(Refusal::UnfitEvent),
         }

@@ -54,10 +54,6 @@ module _ {C : Type 0} (k : Kind C) (t : Table) (n : ℕ) (plan : ℕ → Option 
         };
       }
 
-  -- none was left
-  pub attended_end : (r r' : Progress C) (told told' told'' : List Event) (log log' : List Shown) → Attended k t n plan r r' told told' log log' → told'' ≡ told' ++ [] → Attended k t n plan r r' told told'' log log'
-  attended_end r r' told told' told'' log log' a e = record { events = a.events; told_more = e ∙ append-nil told' ∙ a.told_more; comes = a.comes; log_more = a.log_more }
-
 -- an event that a run was told, its answer and its progress afterwards, by the plan of the run
 pub told_one : {C : Type 0} (k : Kind C) (t : Table) (p q : Plan C) → p ≡ q → (r r' r'' told-progress : Progress (ℕ × ℕ)) (told told' told'' : List Event) (log log' log₁ log'' : List Shown) (e : Event) (answer : Result Answer Refusal) (many : ℕ)
     → AttendedSome (on_numbers k) t q.count (plan_move q) r r' told told' log log' many → told'' ≡ told' ++ (e ∷ []) → r'' ≡ after_event (on_numbers k) t p.count (plan_move p) r' e

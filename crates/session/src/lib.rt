@@ -7,6 +7,6 @@ mod script;
 mod serving;
 
 pub use desk::Desk;
-pub use parts::{Ending, Note, Served, Shown};
+pub use parts::{Cut, Ending, Note, Served, Shown};
 pub use script::Script;
 pub use serving::serve;

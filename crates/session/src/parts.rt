@@ -5,7 +5,7 @@ use run::Answer;
 use solve::Plan;
 
 /// An event, what the run answered, and how far it had come then.
-#[derive(Clone, Copy)]
+#[derive(Clone, Copy, Debug, PartialEq)]
 pub struct Note {
     pub event: Event,
     pub answer: Result<Answer, Refusal>,
@@ -13,7 +13,7 @@ pub struct Note {
 }
 
 /// What a desk is shown.
-#[derive(Clone, Copy)]
+#[derive(Clone, Copy, Debug, PartialEq)]
 pub enum Shown {
     /// A run has begun.
     Begun(Progress<(u32, u32)>),
@@ -22,7 +22,7 @@ pub enum Shown {
 }
 
 /// How a session ended.
-#[derive(Clone, Copy)]
+#[derive(Clone, Copy, Debug, PartialEq)]
 pub enum Ending {
     /// The run was ended here.
     Ended(Progress<(u32, u32)>),
@@ -31,6 +31,10 @@ pub enum Ending {
     /// The run was ended since the desk could not log what it was shown, or told 2^64 - 1 events.
     Cut,
 }
+
+/// A session is cut: the desk could not log what it was shown, or told 2^64 - 1 events.
+#[derive(Clone, Copy, Debug, PartialEq)]
+pub struct Cut;
 
 /// What a session hands back: the plan, and how it ended.
 pub struct Served<'a, C> {

@@ -2,7 +2,7 @@
 ghost use Rattle.std.specs.Prelude.{◌≡◌, ◌≤◌, [], length, take};
 
 use crate::desk::Desk;
-use crate::parts::Shown;
+use crate::parts::{Cut, Shown};
 use game::Event;
 use std::alloc::Global;
 
@@ -10,6 +10,7 @@ use std::alloc::Global;
 #[derive(Drop)]
 pub struct Script<'a> {
     events: &'a [Event],
+    // kept: the events told are the front of the list by this count, which an iterator over the rest would not name
     next: usize,
     log: Vec<Shown>,
 }
@@ -48,16 +49,12 @@ impl<'a> Desk for Script<'a> {
     ghost broken = { λ _. Unit {0} };
 
     fn next(&mut self) -> Option<Event> {
-        if self.next < self.events.len() {
-            let event = self.events[self.next];
-            self.next += 1;
-            Some(event)
-        } else {
-            None
-        }
+        let event = self.events.get(self.next).copied()?;
+        self.next += 1;
+        Some(event)
     }
 
-    fn show(&mut self, shown: Shown) -> bool {
-        self.log.push(shown).is_ok()
+    fn show(&mut self, shown: Shown) -> Result<(), Cut> {
+        self.log.push(shown).map_err(|_| Cut)
     }
 }

@@ -1,5 +1,5 @@
 // Serving a desk.
-ghost use Rattle.std.specs.Prelude.{◌≡◌, true, false, [], ◌∷◌, ◌++◌, MatchResult};
+ghost use Rattle.std.specs.Prelude.{◌≡◌, [], ◌∷◌, ◌++◌, IfOk, IfErr, MatchResult};
 ghost use Rattle.cells.specs.Cells.{solved_cells};
 ghost use Rattle.cost.specs.Numbers.{on_numbers};
 ghost use Rattle.refusal.specs.Number.{refusal_number};
@@ -11,7 +11,7 @@ ghost use Rattle.session.specs.declared.parts.Shown.TheVariants.{Begun};
 ghost use Rattle.solve.specs.Solves.{Solves};
 
 use crate::desk::Desk;
-use crate::parts::{Ending, Note, Served, Shown};
+use crate::parts::{Cut, Ending, Note, Served, Shown};
 use board::Board;
 use cells::Cell;
 use cost::Cost;
@@ -19,33 +19,31 @@ use refusal::Refusal;
 use run::{Run, Unbegun};
 use solve::{Unsolved, solve};
 
-// Shows the desk that a run has begun, and tells the run the desk's events one by one, until the desk has none left. False where the desk failed, or did not come to an end.
-fn attend<'a, B: Board, C: Cost, D: Desk>(run: &mut Run<'a, C>, board: &B, desk: &mut D) -> bool
+// Shows the desk that a run has begun, and tells the run the desk's events one by one, until the desk has none left. Cut where the desk failed, or did not come to an end.
+fn attend<'a, B: Board, C: Cost, D: Desk>(
+    run: &mut Run<'a, C>,
+    board: &B,
+    desk: &mut D,
+) -> Result<(), Cut>
     ensures plan { run.new.plan ≡ run.old.plan }
-    ensures attended { result ≡ true → Attended (on_numbers C.kind) (B.meaning board.now) run.old.plan.count (plan_move run.old.plan) run.old.progress run.new.progress (D.Desk.told desk.old) (D.Desk.told desk.new) (D.Desk.log desk.old ++ (Begun run.old.progress ∷ [])) (D.Desk.log desk.new) }
-    ensures closed { result ≡ true → D.Desk.closed desk.new }
-    ensures cut { result ≡ false → CutShort (D.Desk.told desk.old) (D.Desk.told desk.new) (D.Desk.broken desk.new) }
+    ensures attended { IfOk result (λ _. Attended (on_numbers C.kind) (B.meaning board.now) run.old.plan.count (plan_move run.old.plan) run.old.progress run.new.progress (D.Desk.told desk.old) (D.Desk.told desk.new) (D.Desk.log desk.old ++ (Begun run.old.progress ∷ [])) (D.Desk.log desk.new)) }
+    ensures closed { IfOk result (λ _. D.Desk.closed desk.new) }
+    ensures cut { IfErr result (λ _. CutShort (D.Desk.told desk.old) (D.Desk.told desk.new) (D.Desk.broken desk.new)) }
 {
-    if !desk.show(Shown::Begun(run.progress())) {
-        return false;
-    }
+    desk.show(Shown::Begun(run.progress()))?;
     for _ in 0..u64::MAX {
-        match desk.next() {
-            Some(event) => {
-                let answer = run.tell(board, event);
-                let note = Note {
-                    event,
-                    answer,
-                    progress: run.progress(),
-                };
-                if !desk.show(Shown::Answered(note)) {
-                    return false;
-                }
-            }
-            None => return true,
-        }
+        let Some(event) = desk.next() else {
+            return Ok(());
+        };
+        let answer = run.tell(board, event);
+        let note = Note {
+            event,
+            answer,
+            progress: run.progress(),
+        };
+        desk.show(Shown::Answered(note))?;
     }
-    false
+    Err(Cut)
 }
 
 /// Solves a board, begins a run, tells it the desk's events one by one, shows the desk what each answered, and ends it.
@@ -64,28 +62,21 @@ pub fn serve<'a, B: Board, C: Cost, D: Desk>(
     ensures other { MatchResult result (λ w. two.new ≡ solved_cells C.kind (B.meaning board.now) w.plan.rounds two.old) (λ _. two.new ≡ two.old) }
     ensures when { MatchResult result (λ _. Room (B.meaning board.now) one.old two.old) (λ _. Short (B.meaning board.now) one.old two.old) }
 {
-    let plan = match solve::<B, C>(board, bruise, energy, one, two) {
-        Ok(plan) => plan,
-        Err(unsolved) => return Err(unsolved),
-    };
+    let plan = solve::<B, C>(board, bruise, energy, one, two)?;
     match Run::begin(plan, board) {
         Ok(mut run) => {
-            let ending = if attend(&mut run, board, desk) {
-                Ending::Ended(run.progress())
-            } else {
-                Ending::Cut
+            let ending = match attend(&mut run, board, desk) {
+                Ok(()) => Ending::Ended(run.progress()),
+                Err(Cut) => Ending::Cut,
             };
             Ok(Served {
                 plan: run.end(),
                 ending,
             })
         }
-        Err(unbegun) => {
-            let Unbegun { why, plan } = unbegun;
-            Ok(Served {
-                plan,
-                ending: Ending::NotBegun(why),
-            })
-        }
+        Err(Unbegun { why, plan }) => Ok(Served {
+            plan,
+            ending: Ending::NotBegun(why),
+        }),
     }
 }

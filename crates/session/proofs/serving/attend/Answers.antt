@@ -9,5 +9,5 @@ pub loop-preserved : goal.loop-preserved
 loop-preserved g c = (
   c.tell-answer.ensures.plan ∙ c.loop.invariant.0,
   told_one g.C.Cost.kind (g.B.Board.meaning c.args.board.now) _ c.args.run.now.plan c.loop.invariant.0 _ _ _ _ _ _ _ _ _ _ _ c.in-Some.event c.tell-answer.result c.loop.counter c.loop.invariant.1
-      (c.show-in-Some.ensures.told ∙ c.in-Some.ensures.told) c.tell-answer.ensures.after c.tell-answer.ensures.answer c.progress-in-Some.ensures c.in-Some.ensures.log (c.show-in-Some.ensures.log c.if-not-show-2.false),
+      (c.in_ok-show-2.ensures.told ∙ c.in-Some.ensures.told) c.tell-answer.ensures.after c.tell-answer.ensures.answer c.progress-in-loop.ensures c.in-Some.ensures.log c.in_ok-show-2.ensures.log,
 )

@@ -1,5 +1,5 @@
 use Rattle.std.proofs.Common.{◌≡◌, vec_items}
-use Rattle.console.proofs.desk.ConsoleDesk.next.Given as goal
+use Rattle.console.proofs.desk.Console.read.Given as goal
 
 abbrev pub invariant-loop : goal.invariant-loop
 invariant-loop g l = (vec_items l.self.told ≡ vec_items l.initial.self.told) × (vec_items l.self.log ≡ vec_items l.initial.self.log)
