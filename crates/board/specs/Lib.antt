@@ -1,3 +1,4 @@
 pub mod Questions
 pub mod Ranges
 pub mod Table
+pub mod Turns

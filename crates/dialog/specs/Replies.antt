@@ -6,10 +6,12 @@ use Rattle.game.specs.declared.parts.Phase.{Phase}
 use Rattle.game.specs.declared.parts.Phase.TheVariants.{ArmTurn, Moving, PersonTurn, Ended}
 use Rattle.game.specs.declared.parts.Progress.{Progress}
 use Rattle.refusal.specs.declared.Refusal.{Refusal}
+use Rattle.refusal.specs.Text.{refusal_text}
 use Rattle.run.specs.declared.parts.Answer.{Answer}
 use Rattle.run.specs.declared.parts.Answer.TheVariants.{Begins, Made}
 use Rattle.session.specs.declared.parts.Note.{Note}
-use Rattle.wording.specs.Faults.{refusal_text}
+use Rattle.session.specs.declared.parts.Shown.{Shown}
+use Rattle.session.specs.declared.parts.Shown.TheVariants.{Begun, Answered}
 use Rattle.wording.specs.Texts.{cost_text}
 use Rattle.wording.specs.declared.kinds.CostKind.{CostKind}
 
@@ -47,3 +49,8 @@ answer_text kind e p (Err x) = refusal_text x
 -- what an event was answered
 abbrev pub note_text : CostKind → Note → List ℕ
 note_text kind n = answer_text kind n.event n.progress n.answer
+
+-- what a run has shown
+abbrev pub shown_text : CostKind → Shown → List ℕ
+shown_text kind (Begun p) = begun_text kind p
+shown_text kind (Answered n) = note_text kind n

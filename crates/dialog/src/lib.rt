@@ -8,4 +8,4 @@ mod spellings;
 
 pub use parts::Command;
 pub use reading::command;
-pub use replies::{BegunText, EndText, NoteText, ProgressText};
+pub use replies::{EndText, ProgressText, ShownText};

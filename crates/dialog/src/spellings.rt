@@ -1,4 +1,5 @@
 // The words of events and states.
+// kept: an event's move is printed elsewhere in its line, so this word is no Display of the event, and a state's word is that of this crate's lines alone.
 ghost use Rattle.std.specs.Prelude.{◌≡◌, MatchOption};
 ghost use Rattle.dialog.specs.Replies.{event_name, phase_name};
 

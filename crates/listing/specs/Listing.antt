@@ -1,11 +1,12 @@
 -- The listing of a solved board for one kind of cost. Every line ends with LF, byte 10.
 use Rattle.std.specs.Prelude.{ℕ, zero, suc, List, [], ◌∷◌, ◌++◌, codes, decimal}
 use Rattle.board.specs.Table.{Table, row_at}
+use Rattle.board.specs.Turns.{turn_word}
 use Rattle.cells.specs.declared.parts.Cell.{Cell}
 use Rattle.solve.specs.Verdicts.{verdict_word}
 use Rattle.solve.specs.declared.verdict.Verdict.{Verdict}
 use Rattle.wording.specs.Texts.{value_text, choice_text}
-use Rattle.wording.specs.Words.{kind_word, turn_word}
+use Rattle.wording.specs.Words.{kind_word}
 use Rattle.wording.specs.declared.kinds.CostKind.{CostKind}
 
 -- kind, rounds, verdict, and the cost of the start, whose cell is c

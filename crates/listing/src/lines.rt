@@ -8,21 +8,18 @@ use board::Board;
 use cells::{Cell, turn_at};
 use solve::Plan;
 use std::alloc::AllocError;
-use wording::{ChoiceText, CostKind, CostText, Named, turn_mark};
+use wording::{ChoiceText, CostKind, CostText, Named};
 
 // The first line: kind, rounds, verdict and the cost of the start.
 fn push_head<C: Named>(out: &mut String, plan: &Plan<'_, C>) -> Result<(), AllocError>
-    ensures { OnOk result (string_bytes out.new ≡ string_bytes out.old ++ head_line C.Named.named plan.now.rounds plan.now.verdict (plan_cell plan.now.count plan.now.cells.now plan.now.start)) }
+    ensures { OnOk result (string_bytes out.new ≡ string_bytes out.old ++ head_line C.Named.KIND plan.now.rounds plan.now.verdict (plan_cell plan.now.count plan.now.cells.now plan.now.start)) }
 {
-    let kind = C::cost_kind();
-    let word = kind.word();
-    let rounds = plan.rounds();
-    let verdict = plan.verdict().text();
+    let kind = C::KIND;
     let cost = CostText {
         kind,
         cost: plan.planned(plan.start()).cost,
     };
-    writeln!(out, "{word} {rounds} {verdict} {cost}")
+    writeln!(out, "{kind} {} {} {cost}", plan.rounds(), plan.verdict())
 }
 
 // The line of a position: number, turn, cost and chosen move.
@@ -35,7 +32,7 @@ fn push_position<B: Board>(
 ) -> Result<(), AllocError>
     ensures { OnOk result (string_bytes out.new ≡ string_bytes out.old ++ position_line kind (B.meaning board.now) p cell) }
 {
-    let turn = turn_mark(turn_at(board, p));
+    let turn = turn_at(board, p);
     let cost = CostText {
         kind,
         cost: cell.cost,
@@ -53,12 +50,11 @@ pub fn push_listing<B: Board, C: Named>(
     board: &B,
     plan: &Plan<'_, C>,
 ) -> Result<(), AllocError>
-    ensures { OnOk result (string_bytes out.new ≡ string_bytes out.old ++ listing C.Named.named (B.meaning board.now) plan.now.count plan.now.start plan.now.rounds plan.now.verdict (plan_cell plan.now.count plan.now.cells.now)) }
+    ensures { OnOk result (string_bytes out.new ≡ string_bytes out.old ++ listing C.Named.KIND (B.meaning board.now) plan.now.count plan.now.start plan.now.rounds plan.now.verdict (plan_cell plan.now.count plan.now.cells.now)) }
 {
     push_head(out, plan)?;
-    let kind = C::cost_kind();
     for p in 0..plan.count() {
-        push_position(out, kind, board, p, plan.planned(p))?;
+        push_position(out, C::KIND, board, p, plan.planned(p))?;
     }
     Ok(())
 }

@@ -1,8 +1,11 @@
 //! Why a call refuses: one case for each refusal, with the number that the formats give it.
 #![tactic(auto)]
 
-ghost use Rattle.std.specs.Prelude.{◌≡◌};
+ghost use Rattle.std.specs.Prelude.{◌≡◌, Some};
 ghost use Rattle.refusal.specs.Number.{refusal_number};
+ghost use Rattle.refusal.specs.Text.{refusal_text};
+
+use std::fmt;
 
 /// The refusals of the product.
 #[derive(Clone, Copy, Debug, PartialEq)]
@@ -55,5 +58,14 @@ impl Refusal {
         ensures { result ≡ refusal_number self }
     {
         self as u32
+    }
+}
+
+/// `refused` and the number.
+impl fmt::Display for Refusal {
+    ghost output = { λ r. Some (refusal_text r) };
+
+    fn fmt<W: fmt::Write>(&self, f: &mut fmt::Formatter<W>) -> fmt::Result {
+        write!(f, "refused {}", self.number())
     }
 }

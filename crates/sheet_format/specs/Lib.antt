@@ -1,5 +1,6 @@
 pub mod Boards
 pub mod Cuts
+pub mod Faults
 pub mod Fields
 pub mod Laws
 pub mod Lines

@@ -1,8 +1,7 @@
 -- How a sheet is written.
 use Rattle.std.specs.Prelude.{ℕ, Bool, true, false, List, [], ◌∷◌, ◌++◌, length, codes, decimal}
 use Rattle.std.specs.List.{flat_map}
-use Rattle.board.specs.declared.parts.Turn.{Turn}
-use Rattle.board.specs.declared.parts.Turn.TheVariants.{Arm, Person}
+use Rattle.board.specs.Turns.{turn_word}
 use Rattle.entries.specs.declared.Arrow.{Arrow}
 use Rattle.entries.specs.declared.Move.{Move}
 use Rattle.entries.specs.declared.Position.{Position}
@@ -13,10 +12,6 @@ use Rattle.sheet_format.specs.Cuts.{line_of}
 use Rattle.sheet_format.specs.Sheets.{Sheet}
 
 -- the word of each mark
-abbrev pub turn_word : Turn → List ℕ
-turn_word Arm = codes "a"
-turn_word Person = codes "p"
-
 abbrev pub rest_word : Bool → List ℕ
 rest_word true = codes "r"
 rest_word false = codes "-"

@@ -1,7 +1,11 @@
 //! The format of a bench sheet: what a sheet says, how it is read, how it is spelled, and the laws that tie the two.
 #![tactic(auto)]
 
+ghost use Rattle.std.specs.Prelude.{Some};
+ghost use Rattle.sheet_format.specs.Faults.{fault_text};
+
 use refusal::Refusal;
+use std::fmt;
 
 /// A fault of a sheet: the refusal, and the line and the word where it was found, both from 1.
 #[derive(Clone, Copy, Debug, PartialEq)]
@@ -9,6 +13,15 @@ pub struct Fault {
     pub refusal: Refusal,
     pub line: usize,
     pub word: usize,
+}
+
+/// The refusal, the line and the word.
+impl fmt::Display for Fault {
+    ghost output = { λ f. Some (fault_text f) };
+
+    fn fmt<W: fmt::Write>(&self, f: &mut fmt::Formatter<W>) -> fmt::Result {
+        write!(f, "{} {} {}", self.refusal, self.line, self.word)
+    }
 }
 
 /// A fault within a line: the refusal, and the word, from 1, or 0 for the whole line.

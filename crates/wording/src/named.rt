@@ -1,5 +1,4 @@
 // Which kind of cost a type is.
-ghost use Rattle.std.specs.Prelude.{◌≡◌};
 ghost use Rattle.wording.specs.declared.kinds.CostKind.{CostKind as KindOfCost};
 ghost use Rattle.wording.specs.declared.kinds.CostKind.TheVariants.{Energy as IsEnergy, Peak as IsPeak, Care as IsCare};
 
@@ -8,34 +7,26 @@ use cost::{Care, Cost, Energy, Peak};
 
 /// A kind of cost that has a name.
 pub trait Named: Cost {
-    // its case among the kinds
-    ghost named: { KindOfCost };
+    ghost KIND: { KindOfCost };
 
     /// The kind of the costs.
-    fn cost_kind() -> CostKind
-        ensures { result ≡ named };
+    const KIND: CostKind;
 }
 
 impl Named for Energy {
-    ghost named = { IsEnergy };
+    ghost KIND = { IsEnergy };
 
-    fn cost_kind() -> CostKind {
-        CostKind::Energy
-    }
+    const KIND: CostKind = CostKind::Energy;
 }
 
 impl Named for Peak {
-    ghost named = { IsPeak };
+    ghost KIND = { IsPeak };
 
-    fn cost_kind() -> CostKind {
-        CostKind::Peak
-    }
+    const KIND: CostKind = CostKind::Peak;
 }
 
 impl Named for Care {
-    ghost named = { IsCare };
+    ghost KIND = { IsCare };
 
-    fn cost_kind() -> CostKind {
-        CostKind::Care
-    }
+    const KIND: CostKind = CostKind::Care;
 }
