@@ -80,7 +80,10 @@ impl<R: BufRead + Drop, W: Write + Drop> Console<R, W> {
     }
 
     // Prints a line, or notes that it failed.
-    fn print<D: Display + Drop>(&mut self, text: D) {
+    fn print<D: Display + Drop>(&mut self, text: D)
+        ensures told { self.new.told ≡ self.old.told }
+        ensures log { self.new.log ≡ self.old.log }
+    {
         let printed = say(&mut self.output, text);
         let _ = self.noted(printed);
     }
