@@ -4,7 +4,7 @@ ghost use Rattle.std.specs.Option.{option_to_list, option_flatten};
 ghost use Rattle.std.specs.Result.{result_ok};
 ghost use Rattle.console.specs.declared.desk.State.TheVariants.{Failed};
 
-use dialog::{BegunText, Command, EndText, NoteText, command};
+use dialog::{Command, EndText, ShownText, command};
 use game::Event;
 use refusal::Refusal;
 use session::{Cut, Desk, Ending, Shown};
@@ -12,7 +12,7 @@ use std::alloc::Global;
 use std::fmt::Display;
 use std::io;
 use std::io::{BufRead, Write};
-use wording::{CostKind, RefusalText};
+use wording::CostKind;
 
 // What a console has come to.
 #[derive(Clone, Copy, PartialEq)]
@@ -116,10 +116,7 @@ impl<R: BufRead + Drop, W: Write + Drop> Console<R, W> {
         ensures log { IfOk result (λ _. self.new.log.items ≡ self.old.log.items ++ (shown ∷ [])) }
     {
         let kind = self.kind;
-        match shown {
-            Shown::Begun(progress) => say(&mut self.output, BegunText { kind, progress })?,
-            Shown::Answered(note) => say(&mut self.output, NoteText { kind, note })?,
-        }
+        say(&mut self.output, ShownText { kind, shown })?;
         self.log.push(shown)?;
         Ok(())
     }
@@ -143,7 +140,7 @@ impl<R: BufRead + Drop, W: Write + Drop> Console<R, W> {
 
     /// Prints a refusal.
     pub fn refuse(&mut self, refusal: Refusal) {
-        self.print(RefusalText { refusal });
+        self.print(refusal);
     }
 }
 

@@ -8,7 +8,7 @@ use session::{Served, serve};
 use std::alloc::{AllocError, Global};
 use std::io;
 use std::io::{BufRead, Write};
-use wording::{CostKind, FaultText, Named};
+use wording::{CostKind, Named};
 
 // Serves a run on a bench for one kind of cost.
 fn follow_kind<C: Named, R: BufRead + Drop, W: Write + Drop>(
@@ -20,7 +20,7 @@ fn follow_kind<C: Named, R: BufRead + Drop, W: Write + Drop>(
     let count = bench.board.count() as usize;
     let mut one = vec![in heap; Cell::default(); count]?;
     let mut two = vec![in heap; Cell::default(); count]?;
-    let mut console = Console::new(heap, C::cost_kind(), input, output);
+    let mut console = Console::new(heap, C::KIND, input, output);
     match serve::<_, C, _>(
         &bench.board,
         bench.start.bruise,
@@ -55,10 +55,7 @@ pub fn follow<R: BufRead + Drop, W: Write + Drop>(
             CostKind::Peak => follow_kind::<Peak, R, W>(heap, &bench, input, output),
             CostKind::Care => follow_kind::<Care, R, W>(heap, &bench, input, output),
         },
-        Err(LoadError::Refused(fault)) => {
-            let text = FaultText { fault };
-            writeln!(output, "{text}")
-        }
+        Err(LoadError::Refused(fault)) => writeln!(output, "{fault}"),
         Err(LoadError::Memory) => Err(AllocError.into()),
     }
 }
