@@ -63,11 +63,8 @@ fn copy_of_a_join(rt: HostRuntime) -> Result<(), Fail> {
     let line = Line {
         labels: &[0, 1, 2, 3],
     };
-    if let Ok(rules) = Rules::over(&[Rule::Met(0), Rule::Before(0, 1)]) {
-        let board = join(&line, &rules);
-        let flat = FlatBoard::copy(rt.alloc(), &board)?;
-        return alike(&rt, &board, &flat);
-    }
-    assert!(rt; false);
-    Ok(())
+    let rules = Rules::over(&[Rule::Met(0), Rule::Before(0, 1)])?;
+    let board = join(&line, &rules);
+    let flat = FlatBoard::copy(rt.alloc(), &board)?;
+    alike(&rt, &board, &flat)
 }

@@ -6,15 +6,6 @@ use refusal::Refusal;
 use std::test::Fail;
 use task::Task;
 
-fn arrow(from: u32, need: u32, bar: u32, to: u32) -> Arrow {
-    Arrow {
-        from,
-        need,
-        bar,
-        to,
-    }
-}
-
 // State, label, the state after it. The first two arrows overlap, and the fourth needs the sign that it bars.
 #[test]
 fn arrows(rt: HostRuntime) -> Result<(), Fail> {
@@ -37,34 +28,26 @@ fn arrows(rt: HostRuntime) -> Result<(), Fail> {
         (3, 0, None),
     ];
     let arrows = [
-        arrow(0, 3, 0, 2),
-        arrow(0, 1, 0, 1),
-        arrow(0, 0, 2, 2),
-        arrow(1, 4, 4, 0),
-        arrow(1, 2, 1, 0),
+        Arrow::new(0, 3, 0, 2),
+        Arrow::new(0, 1, 0, 1),
+        Arrow::new(0, 0, 2, 2),
+        Arrow::new(1, 4, 4, 0),
+        Arrow::new(1, 2, 1, 0),
     ];
-    if let Ok(task) = Automaton::over(&[false, true, false], &arrows) {
-        for (z, label, next) in table {
-            assert!(rt; task.next(z, label) == next);
-        }
-        assert!(rt; task.states() == 3 && task.accepting(3) == None);
-        assert!(rt; accepts(&task, &[2, 1, 4, 0]) && !accepts(&task, &[2, 1, 2]));
-        return Ok(());
+    let task = Automaton::over(&[false, true, false], &arrows)?;
+    for (z, label, next) in table {
+        assert!(rt; task.next(z, label) == next);
     }
-    assert!(rt; false);
+    assert!(rt; task.states() == 3 && task.accepting(3) == None);
+    assert!(rt; accepts(&task, &[2, 1, 4, 0]) && !accepts(&task, &[2, 1, 2]));
     Ok(())
 }
 
 #[test]
 fn no_automaton(rt: HostRuntime) -> Result<(), Fail> {
-    if let Ok(task) = Automaton::over(&[], &[]) {
-        assert!(rt;
-            task.states() == 1 && task.next(0, 65535) == Some(0) && task.next(1, 0) == None
-        );
-        assert!(rt; accepts(&task, &[]) && accepts(&task, &[1, 2, 3]));
-        return Ok(());
-    }
-    assert!(rt; false);
+    let task = Automaton::over(&[], &[])?;
+    assert!(rt; task.states() == 1 && task.next(0, 65535) == Some(0) && task.next(1, 0) == None);
+    assert!(rt; accepts(&task, &[]) && accepts(&task, &[1, 2, 3]));
     Ok(())
 }
 
@@ -83,7 +66,7 @@ fn out_of_range(rt: HostRuntime) {
     ];
     for (n, from, to, fine) in table {
         assert!(rt; n <= 65);
-        match Automaton::over(&states[0..n], &[arrow(from, 0, 0, to)]) {
+        match Automaton::over(&states[..n], &[Arrow::new(from, 0, 0, to)]) {
             Ok(_) => assert!(rt; fine),
             Err(e) => assert!(rt; !fine && e == Refusal::OutOfRange),
         }

@@ -21,13 +21,10 @@ fn rests_at_the_end(task: &Rules, labels: &[u32]) -> bool {
 
 #[test]
 fn rest_at_the_end(rt: HostRuntime) -> Result<(), Fail> {
-    if let Ok(task) = Rules::over(&[Rule::Before(0, 1), Rule::After(0, 1)]) {
-        for code in 0..256 {
-            assert!(rt; rests_at_the_end(&task, &labels_of(code)));
-        }
-        return Ok(());
+    let task = Rules::over(&[Rule::Before(0, 1), Rule::After(0, 1)])?;
+    for code in 0..256 {
+        assert!(rt; rests_at_the_end(&task, &labels_of(code)));
     }
-    assert!(rt; false);
     Ok(())
 }
 
@@ -41,73 +38,55 @@ fn the_start_reads_its_label(rt: HostRuntime) -> Result<(), Fail> {
         ([1, 0], 2, 1, 4),
         ([0, 0], 2, 0, 3),
     ];
-    if let Ok(task) = Rules::over(&[Rule::Met(0)]) {
-        for (labels, n, start, end) in table {
-            assert!(rt; 0 < n && n <= 2);
-            let below = Line {
-                labels: &labels[0..n],
-            };
-            let board = join(&below, &task);
-            assert!(rt; board.start() == start && walk(&board, n - 1) == end);
-        }
-        return Ok(());
+    let task = Rules::over(&[Rule::Met(0)])?;
+    for (labels, n, start, end) in table {
+        assert!(rt; 0 < n && n <= 2);
+        let below = Line {
+            labels: &labels[..n],
+        };
+        let board = join(&below, &task);
+        assert!(rt; board.start() == start && walk(&board, n - 1) == end);
     }
-    assert!(rt; false);
     Ok(())
 }
 
-// How many positions, and how many there are after joining one rule, or none where that is refused.
+// How many positions, and how many there are after joining one rule, or that it is refused.
 #[test]
 fn limits(rt: HostRuntime) -> Result<(), Fail> {
     let labels = [0u32; 1366];
-    if let Ok(task) = Rules::over(&[Rule::Met(0)]) {
-        for (n, count) in [(1usize, 3), (1365, 4095), (1366, 0)] {
-            assert!(rt; n <= 1366);
-            let below = Line {
-                labels: &labels[0..n],
-            };
-            match room(&below, &task) {
-                Ok(()) => assert!(rt; join(&below, &task).count() == count),
-                Err(e) => assert!(rt; e == Refusal::JoinTooLarge && count == 0),
-            }
-        }
-        return Ok(());
+    let task = Rules::over(&[Rule::Met(0)])?;
+    for (n, count) in [
+        (1usize, Ok(3)),
+        (1365, Ok(4095)),
+        (1366, Err(Refusal::JoinTooLarge)),
+    ] {
+        assert!(rt; n <= 1366);
+        let below = Line {
+            labels: &labels[..n],
+        };
+        assert!(rt; room(&below, &task).map(|()| join(&below, &task).count()) == count);
     }
-    assert!(rt; false);
     Ok(())
 }
 
 // Whether a line joined with an automaton, and then with rules, rests at its end exactly when both accept.
 fn both_agree(automaton: &Automaton, rules: &Rules, labels: &[u32]) -> bool {
     let below = Line { labels };
-    match room_for_both(&below, automaton, rules) {
-        Ok(()) => {
-            let once = join(&below, automaton);
-            let board = join(&once, rules);
-            let end = walk(&board, labels.len().max(1) - 1);
-            rests(&board, end) == (accepts(automaton, labels) && accepts(rules, labels))
-        }
-        Err(_) => false,
-    }
+    let once = join(&below, automaton);
+    let board = join(&once, rules);
+    let end = walk(&board, labels.len().max(1) - 1);
+    room_for_both(&below, automaton, rules).is_ok()
+        && rests(&board, end) == (accepts(automaton, labels) && accepts(rules, labels))
 }
 
 // An automaton first, rules over it.
 #[test]
 fn both_tasks(rt: HostRuntime) -> Result<(), Fail> {
-    let arrows = [Arrow {
-        from: 0,
-        need: 2,
-        bar: 0,
-        to: 1,
-    }];
-    if let Ok(automaton) = Automaton::over(&[false, true], &arrows) {
-        if let Ok(rules) = Rules::over(&[Rule::Met(0), Rule::After(0, 1)]) {
-            for code in 0..256 {
-                assert!(rt; both_agree(&automaton, &rules, &labels_of(code)));
-            }
-            return Ok(());
-        }
+    let arrows = [Arrow::new(0, 2, 0, 1)];
+    let automaton = Automaton::over(&[false, true], &arrows)?;
+    let rules = Rules::over(&[Rule::Met(0), Rule::After(0, 1)])?;
+    for code in 0..256 {
+        assert!(rt; both_agree(&automaton, &rules, &labels_of(code)));
     }
-    assert!(rt; false);
     Ok(())
 }

@@ -6,44 +6,28 @@ use rules::Rules;
 use std::test::Fail;
 use task::Task;
 
-// Whether some label from `from` to `to`, the latter left out, has a sign.
-fn some_has(labels: &[u32], from: usize, to: usize, sign: u32) -> bool {
-    let mut found = false;
-    for (i, label) in labels.iter().enumerate() {
-        if from <= i && i < to && has(*label, sign) {
-            found = true;
-        }
-    }
-    found
+// Whether some label has a sign.
+fn some_has(labels: &[u32], sign: u32) -> bool {
+    labels.iter().any(|label| has(*label, sign))
 }
 
 // Every label with q stands at or after a label with p.
 fn all_after(labels: &[u32], p: u32, q: u32) -> bool {
-    let mut kept = true;
-    for (i, label) in labels.iter().enumerate() {
-        if has(*label, q) && !some_has(labels, 0, i + 1, p) {
-            kept = false;
-        }
-    }
-    kept
+    labels.iter().enumerate().all(|(i, label)| !has(*label, q)
+        || labels.get(..=i).is_some_and(|front| some_has(front, p)))
 }
 
 // Every label with p stands at or before a label with q.
 fn all_before(labels: &[u32], p: u32, q: u32) -> bool {
-    let mut kept = true;
-    for (i, label) in labels.iter().enumerate() {
-        if has(*label, p) && !some_has(labels, i, labels.len(), q) {
-            kept = false;
-        }
-    }
-    kept
+    labels.iter().enumerate().all(|(i, label)| !has(*label, p)
+        || labels.get(i..).is_some_and(|rest| some_has(rest, q)))
 }
 
 // What a rule says, word for word.
 fn holds(rule: Rule, labels: &[u32]) -> bool {
     match rule {
-        Rule::Met(p) => some_has(labels, 0, labels.len(), p),
-        Rule::Never(p) => !some_has(labels, 0, labels.len(), p),
+        Rule::Met(p) => some_has(labels, p),
+        Rule::Never(p) => !some_has(labels, p),
         Rule::Before(p, q) => all_after(labels, p, q),
         Rule::After(p, q) => all_before(labels, p, q),
     }
@@ -51,29 +35,16 @@ fn holds(rule: Rule, labels: &[u32]) -> bool {
 
 // Whether the task of a rule list accepts a list of labels exactly when each rule holds of it.
 fn agree(rules: &[Rule], labels: &[u32]) -> bool {
-    let mut all = true;
-    for rule in rules {
-        if !holds(*rule, labels) {
-            all = false;
-        }
-    }
-    match Rules::over(rules) {
-        Ok(task) => accepts(&task, labels) == all,
-        Err(_) => false,
-    }
+    let all = rules.iter().all(|rule| holds(*rule, labels));
+    Rules::over(rules).is_ok_and(|task| accepts(&task, labels) == all)
 }
 
 // Whether they agree on all lists of up to four labels.
 fn agree_on_all(rules: &[Rule]) -> bool {
-    for code in 0..256 {
+    (0..256).all(|code| {
         let labels = labels_of(code);
-        for n in 0..5usize {
-            if !agree(rules, &labels[0..n]) {
-                return false;
-            }
-        }
-    }
-    true
+        (0..5usize).all(|n| labels.get(..n).is_some_and(|front| agree(rules, front)))
+    })
 }
 
 // Each row with its fronts: no rule, one, up to five.
@@ -125,7 +96,7 @@ fn rules_on_all_short_lists(rt: HostRuntime) {
     ];
     for rules in table {
         for n in 0..6usize {
-            assert!(rt; agree_on_all(&rules[0..n]));
+            assert!(rt; agree_on_all(&rules[..n]));
         }
     }
 }
@@ -144,7 +115,7 @@ fn worked_lists(rt: HostRuntime) {
     ];
     for (rule, labels, n, wanted) in table {
         assert!(rt; n <= 2);
-        assert!(rt; holds(rule, &labels[0..n]) == wanted && agree(&[rule], &labels[0..n]));
+        assert!(rt; holds(rule, &labels[..n]) == wanted && agree(&[rule], &labels[..n]));
     }
 }
 
@@ -165,32 +136,17 @@ fn digits(rt: HostRuntime) -> Result<(), Fail> {
         (27, 0, None, None),
     ];
     let rules = [Rule::Met(0), Rule::Never(1), Rule::After(0, 1)];
-    if let Ok(task) = Rules::over(&rules) {
-        assert!(rt; task.states() == 27 && task.first() == 0);
-        for (z, label, next, accepting) in table {
-            assert!(rt; task.next(z, label) == next && task.accepting(z) == accepting);
-        }
-        return Ok(());
+    let task = Rules::over(&rules)?;
+    assert!(rt; task.states() == 27 && task.first() == 0);
+    for (z, label, next, accepting) in table {
+        assert!(rt; task.next(z, label) == next && task.accepting(z) == accepting);
     }
-    assert!(rt; false);
     Ok(())
 }
 
 #[test]
-fn five_rules_at_most(rt: HostRuntime) -> Result<(), Fail> {
+fn five_rules_at_most(rt: HostRuntime) {
     let six = [Rule::Met(0); 6];
-    match Rules::over(&six[0..5]) {
-        Ok(task) => assert!(rt; task.states() == 243),
-        Err(_) => assert!(rt; false),
-    }
-    match Rules::over(&six) {
-        Ok(_) => {
-            assert!(rt; false);
-            Ok(())
-        },
-        Err(e) => {
-            assert!(rt; e == Refusal::OutOfRange);
-            Ok(())
-        },
-    }
+    assert!(rt; Rules::over(&six[..5]).is_ok_and(|task| task.states() == 243));
+    assert!(rt; Rules::over(&six).is_err_and(|e| e == Refusal::OutOfRange));
 }

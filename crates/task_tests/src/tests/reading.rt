@@ -18,35 +18,24 @@ pub fn labels_of(code: u32) -> [u32; 4] {
 
 // Whether a task accepts a list of labels; false too where it answers none.
 pub fn accepts<T: Task>(task: &T, labels: &[u32]) -> bool {
-    let mut z = task.first();
-    for label in labels {
-        match task.next(z, *label) {
-            Some(next) => z = next,
-            None => return false,
-        }
-    }
-    match task.accepting(z) {
-        Some(accepting) => accepting,
-        None => false,
-    }
+    labels
+        .iter()
+        .try_fold(task.first(), |z, label| task.next(z, *label))
+        .and_then(|z| task.accepting(z))
+        .unwrap_or(false)
 }
 
 // Where `n` moves 0 lead from the start; the count where one is not there.
 pub fn walk<B: Board>(board: &B, n: usize) -> u32 {
-    let mut p = board.start();
-    for _ in 0..n {
-        match board.step(p, 0) {
-            Some(step) => p = step.target,
-            None => return board.count(),
-        }
-    }
-    p
+    (0..n)
+        .try_fold(
+            board.start(),
+            |p, _| board.step(p, 0).map(|step| step.target),
+        )
+        .unwrap_or(board.count())
 }
 
 // Whether a position is there and rests.
 pub fn rests<B: Board>(board: &B, p: u32) -> bool {
-    match board.rests(p) {
-        Some(rests) => rests,
-        None => false,
-    }
+    board.rests(p).unwrap_or(false)
 }
