@@ -1,61 +1,27 @@
 // Lines of the account.
-use board::{Board, Turn};
-use refusal::Refusal;
-use sheet::Outline;
+use board::{Board, Step};
+use load::Tables;
 use std::io;
 use std::io::Write;
 
-// The mark of a turn.
-fn turn_mark(turn: Turn) -> char {
-    match turn {
-        Turn::Arm => 'a',
-        Turn::Person => 'p',
-    }
-}
-
-// The mark of a resting place.
-fn rest_mark(rests: bool) -> char {
-    if rests { 'r' } else { '-' }
-}
-
-// A refusal with its line and word, 0 where it has none.
-pub(crate) fn write_refusal<W: Write>(
-    out: &mut W,
-    refusal: Refusal,
-    line: usize,
-    word: usize,
-) -> io::Result<()> {
-    let number = refusal.number();
-    writeln!(out, "refused {number} {line} {word}")
-}
-
 // The counts of the sections, the start and the budget.
-pub(crate) fn write_outline<W: Write>(out: &mut W, outline: &Outline) -> io::Result<()> {
-    let Outline {
-        positions,
-        moves,
-        states,
-        arrows,
-        rules,
-        start,
-    } = *outline;
-    let position = start.position;
-    let bruise = start.bruise;
-    let energy = start.energy;
-    writeln!(out, "positions {positions}")?;
-    writeln!(out, "moves {moves}")?;
-    writeln!(out, "states {states}")?;
-    writeln!(out, "arrows {arrows}")?;
-    writeln!(out, "rules {rules}")?;
-    writeln!(out, "start {position}")?;
-    writeln!(out, "budget {bruise} {energy}")
+pub(crate) fn write_tables<W: Write>(out: &mut W, tables: &Tables) -> io::Result<()> {
+    writeln!(out, "positions {}", tables.positions.len())?;
+    writeln!(out, "moves {}", tables.moves.len())?;
+    writeln!(out, "states {}", tables.states.len())?;
+    writeln!(out, "arrows {}", tables.arrows.len())?;
+    writeln!(out, "rules {}", tables.rules.len())?;
+    writeln!(out, "start {}", tables.start.position)?;
+    writeln!(
+        out,
+        "budget {} {}",
+        tables.start.bruise, tables.start.energy
+    )
 }
 
 // The count and the start of the joined board.
 pub(crate) fn write_joined<W: Write, B: Board>(out: &mut W, board: &B) -> io::Result<()> {
-    let count = board.count();
-    let start = board.start();
-    writeln!(out, "joined {count} {start}")
+    writeln!(out, "joined {} {}", board.count(), board.start())
 }
 
 // A position: its number, turn, resting mark and label, then each move as target, bruise and energy.
@@ -65,15 +31,18 @@ fn write_position<W: Write, B: Board>(out: &mut W, board: &B, p: u32) -> io::Res
         board.rests(p),
         board.label(p),
     ) {
-        let turn = turn_mark(turn);
-        let rests = rest_mark(rests);
-        write!(out, "{p} {turn} {rests} {label}")?;
+        let mark = if rests { 'r' } else { '-' };
+        write!(out, "{p} {turn} {mark} {label}")?;
     }
     for k in 0..board.degree(p).unwrap_or(0) {
-        if let Some(step) = board.step(p, k) {
-            let target = step.target;
-            let bruise = step.bruise;
-            let energy = step.energy;
+        if let Some(
+            Step {
+                target,
+                bruise,
+                energy,
+            },
+        ) = board.step(p, k)
+        {
             write!(out, " {target}:{bruise}:{energy}")?;
         }
     }
@@ -81,7 +50,7 @@ fn write_position<W: Write, B: Board>(out: &mut W, board: &B, p: u32) -> io::Res
 }
 
 // A line for each position.
-pub(crate) fn write_positions<W: Write, B: Board>(out: &mut W, board: &B) -> io::Result<()> {
+pub(crate) fn write_board<W: Write, B: Board>(out: &mut W, board: &B) -> io::Result<()> {
     for p in 0..board.count() {
         write_position(out, board, p)?;
     }

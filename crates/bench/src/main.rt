@@ -6,6 +6,7 @@ use std::io;
 use std::io::{BufWriter, Read, Write};
 
 // One byte more than a sheet may have, so that a longer one is seen.
+// kept: each program reads its sheet by one line; no contract can say what a stream gives.
 const MOST_BYTES: u64 = 65537;
 
 fn main(rt: HostRuntime) -> io::Result<()> {

@@ -15,9 +15,7 @@ fn main(rt: HostRuntime) -> anyhow::Result<()> {
     let (Some(kind), Some(file), None) = (args.next(), args.next(), args.next()) else {
         bail!("usage: follow KIND SHEETFILE");
     };
-    let Some(kind) = CostKind::of(kind.as_str()) else {
-        bail!("the kind is energy, peak or care");
-    };
+    let kind: CostKind = kind.parse()?;
     let mut sheet: Vec<u8> = Vec::new(rt.alloc());
     fs::open(&rt, file.as_str())?
         .take(MOST_BYTES)

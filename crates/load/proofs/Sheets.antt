@@ -76,3 +76,7 @@ sheet_whole z s w = record {
   few = w.states.most;
   inside = λ i h. let fits = All-get_or (ArrowFits (length s.states)) s.arrows i absent_arrow h w.each_arrow in (fits.from, fits.to);
 }
+
+-- and so is that of its tables
+pub tables_whole : (s : Sheet) → WellFormed largest_room s → (ss : List Bool) (as' : List Arrow) → ss ≡ s.states → as' ≡ s.arrows → Whole ss as'
+tables_whole s w ss as' es ea = subst (λ x. Whole ss x) (sym ea) (subst (λ x. Whole x s.arrows) (sym es) (sheet_whole largest_room s w))

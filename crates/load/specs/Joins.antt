@@ -1,11 +1,7 @@
 -- A board with two tasks joined, copied flat.
-use Rattle.std.specs.Prelude.{◌≡◌, ℕ, ◌*◌, ◌<◌, Bool, List, length, Ok, Err, Result}
+use Rattle.std.specs.Prelude.{◌≡◌, ◌*◌, ◌<◌, length, Ok, Err, Result}
 use Rattle.automaton.specs.Arrows.{automaton_dfa}
 use Rattle.board.specs.Table.{Table}
-use Rattle.entries.specs.declared.Arrow.{Arrow}
-use Rattle.entries.specs.declared.Move.{Move}
-use Rattle.entries.specs.declared.PositionEntry.{PositionEntry}
-use Rattle.entries.specs.declared.Rule.{Rule}
 use Rattle.flat.specs.Meaning.{flat_meaning}
 use Rattle.flat.specs.declared.holder.FlatBoard.{FlatBoard}
 use Rattle.joined.specs.Meant.{meant}
@@ -17,6 +13,7 @@ use Rattle.task.specs.Dfa.{Dfa}
 use Rattle.twice.specs.Twice.{RoomForBoth}
 use Rattle.load.specs.declared.parts.LoadError.{LoadError}
 use Rattle.load.specs.declared.parts.LoadError.TheVariants.{Refused, Memory}
+use Rattle.load.specs.declared.tables.Tables.{Tables}
 
 -- the join of t with a and then with b, or 22 where it would have more than 4,096 positions, or no memory
 abbrev pub FlatJoin : Table → Dfa → Dfa → Result FlatBoard LoadError → Type 0
@@ -25,5 +22,5 @@ FlatJoin t a b (Err (Refused e)) = (e ≡ fault JoinTooLarge 0 0) × (4096 < len
 FlatJoin t a b (Err Memory) = Unit {0}
 
 -- the same of the board that tables hold, the automaton and the rules
-abbrev pub JoinedTables : List PositionEntry → List Move → List Bool → List Arrow → List Rule → ℕ → Result FlatBoard LoadError → Type 0
-JoinedTables ps ms ss as' rs start r = FlatJoin (board_of ps ms start) (automaton_dfa ss as') (rules_dfa rs) r
+abbrev pub JoinedTables : Tables → Result FlatBoard LoadError → Type 0
+JoinedTables t r = FlatJoin (board_of t.positions.items t.moves.items t.start.position) (automaton_dfa t.states.items t.arrows.items) (rules_dfa t.rules.items) r

@@ -1,32 +1,19 @@
 // A board with its tasks joined, copied flat.
-ghost use Rattle.std.specs.Prelude.{◌≡◌, ◌≤◌, length};
-ghost use Rattle.automaton.specs.Follows.{Whole};
+ghost use Rattle.std.specs.Prelude.{◌≡◌};
+ghost use Rattle.table.specs.Meaning.{board_of, table_meaning};
 ghost use Rattle.load.specs.Joins.{FlatJoin, JoinedTables};
 
 use crate::parts::LoadError;
+use crate::tables::Tables;
 use automaton::Automaton;
 use board::Board;
-use entries::{Arrow, Move, PositionEntry, Rule};
 use flat::FlatBoard;
 use joined::join;
-use refusal::Refusal;
 use rules::Rules;
-use sheet_format::Fault;
 use std::alloc::Global;
 use table::TableBoard;
 use task::Task;
 use twice::room_for_both;
-
-// A refusal of the sheet as a whole.
-fn refused(refusal: Refusal) -> LoadError
-    ensures { result ≡ LoadError.Refused (record { refusal = refusal; line = 0; word = 0 }) }
-{
-    LoadError::Refused(Fault {
-        refusal,
-        line: 0,
-        word: 0,
-    })
-}
 
 // A flat copy of a board with one task joined to it and then another.
 fn flat_join<B: Board, T: Task, U: Task>(
@@ -37,37 +24,29 @@ fn flat_join<B: Board, T: Task, U: Task>(
 ) -> Result<FlatBoard, LoadError>
     ensures { FlatJoin (B.Board.meaning board.now) (T.Task.meaning first.now) (U.Task.meaning second.now) result }
 {
-    match room_for_both(board, first, second) {
-        Ok(()) => match FlatBoard::copy(heap, &join(&join(board, first), second)) {
-            Ok(copy) => Ok(copy),
-            Err(_) => Err(LoadError::Memory),
-        },
-        Err(refusal) => Err(refused(refusal)),
-    }
+    room_for_both(board, first, second)?;
+    Ok(FlatBoard::copy(heap, &join(&join(board, first), second))?)
 }
 
-// A flat copy of the board that tables hold, with the automaton and then the rules joined to it.
-pub(crate) fn joined_tables<'a>(
-    heap: Global,
-    positions: &'a [PositionEntry],
-    moves: &'a [Move],
-    states: &[bool],
-    arrows: &[Arrow],
-    rules: &[Rule],
-    start: u32,
-) -> Result<FlatBoard, LoadError>
-    requires automaton { Whole states.now arrows.now }
-    requires rules { length rules.now ≤ 5 }
-    ensures { JoinedTables positions.now moves.now states.now arrows.now rules.now start result }
-{
-    let board = TableBoard::over(positions, moves, start);
-    let automaton = match Automaton::over(states, arrows) {
-        Ok(automaton) => automaton,
-        Err(refusal) => return Err(refused(refusal)),
-    };
-    let rules = match Rules::over(rules) {
-        Ok(rules) => rules,
-        Err(refusal) => return Err(refused(refusal)),
-    };
-    flat_join(heap, &board, &automaton, &rules)
+impl Tables {
+    /// The board of the positions and the moves.
+    pub fn board(&self) -> TableBoard<'_>
+        ensures { table_meaning result ≡ board_of self.now.positions.items self.now.moves.items self.now.start.position }
+    {
+        TableBoard::over(
+            self.positions.as_slice(),
+            self.moves.as_slice(),
+            self.start.position,
+        )
+    }
+
+    /// A flat copy of the board, with the automaton and then the rules joined to it.
+    /// A join of more than 4,096 positions is refused.
+    pub fn joined(&self, heap: Global) -> Result<FlatBoard, LoadError>
+        ensures { JoinedTables self.now result }
+    {
+        let automaton = Automaton::over(self.states.as_slice(), self.arrows.as_slice())?;
+        let rules = Rules::over(self.rules.as_slice())?;
+        flat_join(heap, &self.board(), &automaton, &rules)
+    }
 }

@@ -4,6 +4,8 @@
 mod joining;
 mod parts;
 mod reading;
+mod tables;
 
 pub use parts::{Bench, LoadError};
 pub use reading::load;
+pub use tables::Tables;

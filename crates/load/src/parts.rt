@@ -1,9 +1,11 @@
 // What loading a sheet answers.
 ghost use Rattle.std.specs.Prelude.{◌≡◌};
-ghost use Rattle.load.specs.declared.parts.LoadError.TheVariants.{Memory};
+ghost use Rattle.sheet_format.specs.Reading.{fault};
+ghost use Rattle.load.specs.declared.parts.LoadError.TheVariants.{Refused, Memory};
 
 use entries::Start;
 use flat::FlatBoard;
+use refusal::Refusal;
 use sheet_format::Fault;
 use std::alloc::AllocError;
 
@@ -28,5 +30,26 @@ impl From<AllocError> for LoadError {
 
     fn from(_error: AllocError) -> LoadError {
         LoadError::Memory
+    }
+}
+
+impl From<Fault> for LoadError {
+    ghost from_gives = { λ f e. e ≡ Refused f };
+
+    fn from(fault: Fault) -> LoadError {
+        LoadError::Refused(fault)
+    }
+}
+
+/// A refusal of the sheet as a whole.
+impl From<Refusal> for LoadError {
+    ghost from_gives = { λ r e. e ≡ Refused (fault r 0 0) };
+
+    fn from(refusal: Refusal) -> LoadError {
+        LoadError::Refused(Fault {
+            refusal,
+            line: 0,
+            word: 0,
+        })
     }
 }

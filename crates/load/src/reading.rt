@@ -1,15 +1,14 @@
 // Loading a sheet.
-ghost use Rattle.std.specs.Prelude.{◌≡◌, take};
-ghost use Rattle.load.specs.Boards.{largest_room};
-ghost use Rattle.load.specs.Loads.{Loads};
+ghost use Rattle.std.specs.Prelude.{◌≡◌, take, IfOk};
 ghost use Rattle.sheet.specs.Filled.{room_in};
+ghost use Rattle.load.specs.Boards.{largest_room};
+ghost use Rattle.load.specs.Loads.{ReadsTables, Loads};
 
-use crate::joining::joined_tables;
 use crate::parts::{Bench, LoadError};
-use board::Turn;
-use entries::{Arrow, Move, Position, PositionEntry, Rule};
+use crate::tables::Tables;
+use entries::{Arrow, Move, PositionEntry, Rule};
 use sheet::read;
-use std::alloc::Global;
+use std::alloc::{AllocError, Global};
 
 // Room for the largest sheet.
 const MOST_POSITIONS: usize = 4096;
@@ -22,44 +21,16 @@ const MOST_ARROWS: usize = 256;
 
 const MOST_RULES: usize = 5;
 
-// The entries that fill the tables before a sheet is read.
-const NO_POSITION: PositionEntry = PositionEntry {
-    position: Position {
-        turn: Turn::Arm,
-        rests: false,
-        label: 0,
-    },
-    first: 0,
-    degree: 0,
-};
-
-const NO_MOVE: Move = Move {
-    from: 0,
-    to: 0,
-    bruise: 0,
-    energy: 0,
-};
-
-const NO_ARROW: Arrow = Arrow {
-    from: 0,
-    need: 0,
-    bar: 0,
-    to: 0,
-};
-
-// The first `n` entries of a table, or all where it has fewer.
-fn front<T>(table: &[T], n: usize) -> &[T]
-    ensures { result.now ≡ take n table.now }
+// The first `n` entries of a table.
+fn front<T: Copy>(heap: Global, table: &[T], n: usize) -> Result<Vec<T>, AllocError>
+    ensures { IfOk result (λ list. list.items ≡ take n table.now) }
 {
-    if n <= table.len() {
-        &table[0..n]
-    } else {
-        table
-    }
+    table.iter().take(n).copied().collect(heap)
 }
 
-// Reads a sheet into tables that have room for the largest, and joins its tasks to its board.
-fn load_into(
+// Reads a sheet into lists that have room for the largest, and keeps what it holds.
+// kept: the lists are lent to a function of their own, since a proof knows nothing of a `Vec` after `as_mut_slice`.
+fn read_into(
     heap: Global,
     sheet: &[u8],
     positions: &mut [PositionEntry],
@@ -67,28 +38,40 @@ fn load_into(
     states: &mut [bool],
     arrows: &mut [Arrow],
     rules: &mut [Rule],
-) -> Result<Bench, LoadError>
+) -> Result<Tables, LoadError>
     requires { room_in positions.old moves.old states.old arrows.old rules.old ≡ largest_room }
-    ensures { Loads sheet.now result }
+    ensures { ReadsTables sheet.now result }
 {
-    let outline = match read(sheet, positions, moves, states, arrows, rules) {
-        Ok(outline) => outline,
-        Err(fault) => return Err(LoadError::Refused(fault)),
-    };
-    match joined_tables(
-        heap,
-        front(positions, outline.positions),
-        front(moves, outline.moves),
-        front(states, outline.states),
-        front(arrows, outline.arrows),
-        front(rules, outline.rules),
-        outline.start.position,
-    ) {
-        Ok(board) => Ok(Bench {
-            board,
-            start: outline.start,
-        }),
-        Err(error) => Err(error),
+    let outline = read(sheet, positions, moves, states, arrows, rules)?;
+    Ok(Tables {
+        positions: front(heap, positions, outline.positions)?,
+        moves: front(heap, moves, outline.moves)?,
+        states: front(heap, states, outline.states)?,
+        arrows: front(heap, arrows, outline.arrows)?,
+        rules: front(heap, rules, outline.rules)?,
+        start: outline.start,
+    })
+}
+
+impl Tables {
+    /// Reads a sheet into tables of its entries. A sheet with a fault is refused.
+    pub fn read(heap: Global, sheet: &[u8]) -> Result<Tables, LoadError>
+        ensures { ReadsTables sheet.now result }
+    {
+        let mut positions = vec![in heap; PositionEntry::default(); MOST_POSITIONS]?;
+        let mut moves = vec![in heap; Move::default(); MOST_MOVES]?;
+        let mut states = vec![in heap; false; MOST_STATES]?;
+        let mut arrows = vec![in heap; Arrow::default(); MOST_ARROWS]?;
+        let mut rules = vec![in heap; Rule::Met(0); MOST_RULES]?;
+        read_into(
+            heap,
+            sheet,
+            positions.as_mut_slice(),
+            moves.as_mut_slice(),
+            states.as_mut_slice(),
+            arrows.as_mut_slice(),
+            rules.as_mut_slice(),
+        )
     }
 }
 
@@ -98,18 +81,9 @@ fn load_into(
 pub fn load(heap: Global, sheet: &[u8]) -> Result<Bench, LoadError>
     ensures { Loads sheet.now result }
 {
-    let mut positions = vec![in heap; NO_POSITION; MOST_POSITIONS]?;
-    let mut moves = vec![in heap; NO_MOVE; MOST_MOVES]?;
-    let mut states = vec![in heap; false; MOST_STATES]?;
-    let mut arrows = vec![in heap; NO_ARROW; MOST_ARROWS]?;
-    let mut rules = vec![in heap; Rule::Met(0); MOST_RULES]?;
-    load_into(
-        heap,
-        sheet,
-        positions.as_mut_slice(),
-        moves.as_mut_slice(),
-        states.as_mut_slice(),
-        arrows.as_mut_slice(),
-        rules.as_mut_slice(),
-    )
+    let tables = Tables::read(heap, sheet)?;
+    Ok(Bench {
+        board: tables.joined(heap)?,
+        start: tables.start,
+    })
 }

@@ -12,10 +12,10 @@ use Rattle.game.specs.Rounds.{round, NumberOfRounds}
 use Rattle.game.specs.RunsKeep.{solution}
 use Rattle.listing.specs.Listing.{listing}
 use Rattle.load.specs.Boards.{task_board}
+use Rattle.sheet_format.specs.Faults.{fault_text}
 use Rattle.sheet_format.specs.Sheets.{Sheet}
 use Rattle.sheet_format.specs.declared.Fault.{Fault}
 use Rattle.solve.specs.Verdicts.{verdict_of}
-use Rattle.wording.specs.Faults.{fault_text}
 use Rattle.wording.specs.declared.kinds.CostKind.{CostKind}
 use Rattle.wording.specs.declared.kinds.CostKind.TheVariants.{Energy, Peak, Care}
 

@@ -21,16 +21,13 @@ fn push_kind<B: Board, C: Named>(
 ) -> Result<(), AllocError>
     requires one { length (B.meaning board.now).rows ≤ length one.old }
     requires two { length (B.meaning board.now).rows ≤ length two.old }
-    ensures { OnOk result (AppendsKind C.Named.named C.kind (B.meaning board.now) start (string_bytes out.old) (string_bytes out.new)) }
+    ensures { OnOk result (AppendsKind C.Named.KIND C.kind (B.meaning board.now) start (string_bytes out.old) (string_bytes out.new)) }
 {
     match solve::<B, C>(board, start.bruise, start.energy, one, two) {
         Ok(plan) => {
             let listed = push_listing(out, board, &plan);
             let _ = plan.close();
-            match listed {
-                Ok(()) => Ok(()),
-                Err(_) => Err(AllocError),
-            }
+            listed
         }
         Err(_) => Err(AllocError),
     }
@@ -45,11 +42,7 @@ pub(crate) fn push_kinds<B: Board>(
 ) -> Result<(), AllocError>
     ensures { OnOk result (AppendsKinds (B.meaning board.now) start (string_bytes out.old) (string_bytes out.new)) }
 {
-    let empty = Cell {
-        cost: None,
-        choice: None,
-        round: 0,
-    };
+    let empty = Cell::default();
     let count = board.count() as usize;
     let mut one = vec![in heap; empty; count]?;
     let mut two = vec![in heap; empty; count]?;

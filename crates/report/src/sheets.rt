@@ -6,7 +6,6 @@ ghost use Rattle.report.specs.Reports.{Reported};
 use crate::kinds::push_kinds;
 use load::{LoadError, load};
 use std::alloc::{AllocError, Global};
-use wording::FaultText;
 
 /// The listing of a sheet's board for energy, peak and care, or the sheet's refusal. It fails only for want of memory.
 pub fn report(heap: Global, sheet: &[u8]) -> Result<String, AllocError>
@@ -18,10 +17,7 @@ pub fn report(heap: Global, sheet: &[u8]) -> Result<String, AllocError>
             push_kinds(heap, &mut out, &bench.board, bench.start)?;
             Ok(out)
         }
-        Err(LoadError::Refused(fault)) => {
-            let fault = FaultText { fault };
-            format!(in heap; "{fault}\n")
-        }
+        Err(LoadError::Refused(fault)) => format!(in heap; "{fault}\n"),
         Err(LoadError::Memory) => Err(AllocError),
     }
 }
