@@ -1,22 +1,11 @@
 // Care as a kind of cost.
-ghost use Rattle.std.specs.Prelude.{◌≡◌, ◌+◌, ◌*◌};
 ghost use Rattle.cost.specs.CareKind.{care_kind};
 ghost use Rattle.cost.specs.CareLaws.{care_laws};
 
 use crate::interface::Cost;
 use crate::kinds::Care;
 
-impl Care {
-    /// Bruise and energy as one number, which has the same order.
-    // kept: a derived order is two comparisons, and solving for the three kinds then takes 3 to 4 % longer
-    fn packed(self) -> u64
-        ensures { result ≡ self.bruise * 4294967296 + self.energy }
-    {
-        self.bruise as u64 * 4294967296 + self.energy as u64
-    }
-}
-
-#[tactic(auto, using(crate::specs::CareLaws::care_same, crate::specs::CareLaws::packed_order))]
+#[tactic(auto, using(crate::specs::CareLaws::care_same))]
 impl Cost for Care {
     ghost kind = { care_kind };
 
@@ -47,7 +36,7 @@ impl Cost for Care {
     }
 
     fn at_most(self, other: Care) -> bool {
-        self.packed() <= other.packed()
+        self <= other
     }
 
     fn numbers(self) -> (u32, u32) {

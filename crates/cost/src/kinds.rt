@@ -18,7 +18,7 @@ pub struct Peak {
 }
 
 /// The bruise first, then the energy.
-#[derive(Clone, Copy)]
+#[derive(Clone, Copy, PartialEq, PartialOrd)]
 pub struct Care {
     pub(crate) bruise: u32,
     pub(crate) energy: u32,
