@@ -1,17 +1,13 @@
 //! Reads a sheet from standard input and prints the listing of its board for each kind of cost, or its one refusal.
 #![tactic(auto)]
 
+use load::read_bytes;
 use report::report;
 use std::io;
-use std::io::{Read, Write};
-
-// One byte more than a sheet may have, so that a longer one is seen.
-// kept: each program reads its sheet by one line; no contract can say what a stream gives.
-const MOST_BYTES: u64 = 65537;
+use std::io::Write;
 
 fn main(rt: HostRuntime) -> io::Result<()> {
-    let mut sheet: Vec<u8> = Vec::new(rt.alloc());
-    rt.stdin().take(MOST_BYTES).read_to_end(&mut sheet)?;
+    let sheet = read_bytes(rt.alloc(), rt.stdin())?;
     let text = report(rt.alloc(), sheet.as_slice())?;
     rt.stdout().write_all(text.as_bytes())
 }

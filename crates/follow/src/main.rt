@@ -3,12 +3,10 @@
 
 use anyhow::bail;
 use console::follow;
-use std::io::{BufReader, Read};
+use load::read_bytes;
+use std::io::BufReader;
 use std::{env, fs};
 use wording::CostKind;
-
-// One byte more than a sheet may have, so that a longer one is seen.
-const MOST_BYTES: u64 = 65537;
 
 fn main(rt: HostRuntime) -> anyhow::Result<()> {
     let mut args = env::args(&rt)?.skip(1);
@@ -16,10 +14,7 @@ fn main(rt: HostRuntime) -> anyhow::Result<()> {
         bail!("usage: follow KIND SHEETFILE");
     };
     let kind: CostKind = kind.parse()?;
-    let mut sheet: Vec<u8> = Vec::new(rt.alloc());
-    fs::open(&rt, file.as_str())?
-        .take(MOST_BYTES)
-        .read_to_end(&mut sheet)?;
+    let sheet = read_bytes(rt.alloc(), fs::open(&rt, file.as_str())?)?;
     follow(
         rt.alloc(),
         kind,

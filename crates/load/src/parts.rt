@@ -17,7 +17,7 @@ pub struct Bench {
 }
 
 /// Why a sheet was not loaded.
-#[derive(Drop)]
+#[derive(Debug, Drop)]
 pub enum LoadError {
     /// The sheet is refused.
     Refused(Fault),

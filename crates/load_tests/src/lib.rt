@@ -1,0 +1,5 @@
+//! Loading sheets, by example.
+#![tactic(auto)]
+
+#[cfg(test)]
+mod tests;
