@@ -34,6 +34,7 @@ fn write_position<W: Write, B: Board>(out: &mut W, board: &B, p: u32) -> io::Res
         let mark = if rests { 'r' } else { '-' };
         write!(out, "{p} {turn} {mark} {label}")?;
     }
+    // kept: a loop, here and below, since each part is written with `?`.
     for k in 0..board.degree(p).unwrap_or(0) {
         if let Some(
             Step {

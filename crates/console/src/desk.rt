@@ -93,6 +93,7 @@ impl<R: BufRead + Drop, W: Write + Drop> Console<R, W> {
         ensures told { self.new.told.items ≡ self.old.told.items ++ option_to_list (option_flatten (result_ok result)) }
         ensures log { self.new.log.items ≡ self.old.log.items }
     {
+        // kept: a count that is never reached stands for a loop that the input ends.
         for _ in 0..u64::MAX {
             match read_line(self.heap, &mut self.input)? {
                 Some(Command::Told(event)) => {
@@ -160,7 +161,7 @@ impl<R: BufRead + Drop, W: Write + Drop> Desk for Console<R, W> {
     }
 
     fn show(&mut self, shown: Shown) -> Result<(), Cut> {
-        let kept = self.keep(shown);
-        self.noted(kept).ok_or(Cut)
+        let outcome = self.keep(shown);
+        self.noted(outcome).ok_or(Cut)
     }
 }

@@ -14,13 +14,11 @@ use wording::{CostKind, Named};
 fn follow_kind<C: Named, R: BufRead + Drop, W: Write + Drop>(
     heap: Global,
     bench: &Bench,
-    input: R,
-    output: W,
+    mut console: Console<R, W>,
 ) -> io::Result<()> {
     let count = bench.board.count() as usize;
     let mut one = vec![in heap; Cell::default(); count]?;
     let mut two = vec![in heap; Cell::default(); count]?;
-    let mut console = Console::new(heap, C::KIND, input, output);
     match serve::<_, C, _>(
         &bench.board,
         bench.start.bruise,
@@ -49,12 +47,15 @@ pub fn follow<R: BufRead + Drop, W: Write + Drop>(
     mut output: W,
 ) -> io::Result<()> {
     match load(heap, sheet) {
-        // kept: here the word picks the type
-        Ok(bench) => match kind {
-            CostKind::Energy => follow_kind::<Energy, R, W>(heap, &bench, input, output),
-            CostKind::Peak => follow_kind::<Peak, R, W>(heap, &bench, input, output),
-            CostKind::Care => follow_kind::<Care, R, W>(heap, &bench, input, output),
-        },
+        Ok(bench) => {
+            let console = Console::new(heap, kind, input, output);
+            // kept: here the word picks the type
+            match kind {
+                CostKind::Energy => follow_kind::<Energy, R, W>(heap, &bench, console),
+                CostKind::Peak => follow_kind::<Peak, R, W>(heap, &bench, console),
+                CostKind::Care => follow_kind::<Care, R, W>(heap, &bench, console),
+            }
+        }
         Err(LoadError::Refused(fault)) => writeln!(output, "{fault}"),
         Err(LoadError::Memory) => Err(AllocError.into()),
     }

@@ -4,6 +4,7 @@ ghost use Rattle.cost.specs.Kind.{Kind};
 ghost use Rattle.cost.specs.Laws.{CostLaws};
 
 /// A kind of cost. Asking changes and refuses nothing.
+// kept: the order and the two numbers are methods, and no PartialOrd or From, since the laws are of the one kind that names them all.
 pub trait Cost: Copy {
     // zero, a move's charge, adding, the order, and a cost's two numbers with their reading
     ghost kind: { Kind Self };

@@ -9,6 +9,8 @@ use session::Shown;
 use std::fmt;
 use wording::{CostKind, CostText};
 
+// kept: texts by types of their own, since the cost in them is printed by its kind.
+
 /// How far a run has come: position, cost spent, moves and state.
 #[derive(Clone, Copy)]
 pub struct ProgressText {

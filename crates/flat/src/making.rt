@@ -17,6 +17,7 @@ impl FlatBoard {
         let count = board.count();
         let mut rows = Vec::with_capacity(heap, count as usize)?;
         let mut steps = Vec::new(heap);
+        // kept: a loop, since each row is pushed with `?`, and so are the moves below.
         for p in 0..count {
             let row = push_moves(board, p, &mut steps)?;
             rows.push(row)?;

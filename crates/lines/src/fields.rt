@@ -15,13 +15,6 @@ use sheet_format::LineFault;
 use std::ops::Range;
 use words::{Line, Mark, Word};
 
-// What a line is refused with: at a word, or at 0 for the whole line.
-pub(crate) fn fault(refusal: Refusal, word: usize) -> LineFault
-    ensures { result ≡ line_fault refusal word }
-{
-    LineFault { refusal, word }
-}
-
 // A number of a range.
 fn number_in(line: &Line<'_>, place: usize, range: Range<u64>) -> Result<u32, LineFault>
     requires { range.end ≤ 4294967296 }
@@ -29,8 +22,8 @@ fn number_in(line: &Line<'_>, place: usize, range: Range<u64>) -> Result<u32, Li
 {
     match line.word(place).word {
         Word::Number(n, _) if range.contains(&n) => Ok(n as u32),
-        Word::Number(..) => Err(fault(Refusal::OutOfRange, place)),
-        _ => Err(fault(Refusal::NotANumber, place)),
+        Word::Number(..) => Err(LineFault::new(Refusal::OutOfRange, place)),
+        _ => Err(LineFault::new(Refusal::NotANumber, place)),
     }
 }
 
@@ -55,7 +48,7 @@ fn first_mark(line: &Line<'_>, place: usize, first: Mark, second: Mark) -> Resul
     match line.word(place).word {
         Word::Mark(m, _) if m == first => Ok(true),
         Word::Mark(m, _) if m == second => Ok(false),
-        _ => Err(fault(Refusal::UnknownMark, place)),
+        _ => Err(LineFault::new(Refusal::UnknownMark, place)),
     }
 }
 
@@ -87,7 +80,7 @@ pub(crate) fn word_count(line: &Line<'_>, n: usize) -> Result<(), LineFault>
 {
     line.has_words(n)
         .then_some(())
-        .ok_or(fault(Refusal::WordCount, 0))
+        .ok_or(LineFault::new(Refusal::WordCount, 0))
 }
 
 // Refuses a line that does not begin with the name of its section.
@@ -96,5 +89,5 @@ pub(crate) fn section_name(line: &Line<'_>, name: &[u8]) -> Result<(), LineFault
 {
     (line.word(1).word.bytes() == name)
         .then_some(())
-        .ok_or(fault(Refusal::WrongSection, 1))
+        .ok_or(LineFault::new(Refusal::WrongSection, 1))
 }

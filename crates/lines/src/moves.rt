@@ -64,13 +64,13 @@ fn checked(positions: &[Position], before: &[Move], m: Move) -> Result<Move, Lin
     ensures { result ≡ move_checks positions.now (reverse before.now) m }
 {
     if m.from < last_start(before) {
-        return Err(fields::fault(Refusal::FromFalls, 0));
+        return Err(LineFault::new(Refusal::FromFalls, 0));
     }
     if count_starts(before, m.from) >= 64 {
-        return Err(fields::fault(Refusal::TooManyMoves, 0));
+        return Err(LineFault::new(Refusal::TooManyMoves, 0));
     }
     if is_paid_by_person(positions, m) {
-        return Err(fields::fault(Refusal::PersonPays, 0));
+        return Err(LineFault::new(Refusal::PersonPays, 0));
     }
     Ok(m)
 }

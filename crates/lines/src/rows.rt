@@ -24,7 +24,7 @@ pub fn header_line(
     fields::section_name(line, name)?;
     let count = fields::number(line, 2, low, high)?;
     if count as usize > room {
-        return Err(fields::fault(Refusal::ShortTable, 2));
+        return Err(LineFault::new(Refusal::ShortTable, 2));
     }
     Ok(count)
 }

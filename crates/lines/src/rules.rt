@@ -54,7 +54,7 @@ impl LineKind<Rule> for RuleLines {
                 let (first, second) = two_signs(line)?;
                 Ok(Rule::After(first, second))
             }
-            _ => Err(fields::fault(Refusal::UnknownMark, 1)),
+            _ => Err(LineFault::new(Refusal::UnknownMark, 1)),
         }
     }
 }

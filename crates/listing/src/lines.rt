@@ -53,6 +53,7 @@ pub fn push_listing<B: Board, C: Named>(
     ensures { OnOk result (string_bytes out.new ≡ string_bytes out.old ++ listing C.Named.KIND (B.meaning board.now) plan.now.count plan.now.start plan.now.rounds plan.now.verdict (plan_cell plan.now.count plan.now.cells.now)) }
 {
     push_head(out, plan)?;
+    // kept: a loop, since each line is written with `?`.
     for p in 0..plan.count() {
         push_position(out, C::KIND, board, p, plan.planned(p))?;
     }

@@ -46,10 +46,6 @@ impl From<Refusal> for LoadError {
     ghost from_gives = { λ r e. e ≡ Refused (fault r 0 0) };
 
     fn from(refusal: Refusal) -> LoadError {
-        LoadError::Refused(Fault {
-            refusal,
-            line: 0,
-            word: 0,
-        })
+        LoadError::Refused(Fault::new(refusal, 0, 0))
     }
 }

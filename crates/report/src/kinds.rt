@@ -29,7 +29,7 @@ fn push_kind<B: Board, C: Named>(
             let _ = plan.close();
             listed
         }
-        Err(_) => Err(AllocError),
+        Err(_) => unreachable!(),
     }
 }
 

@@ -19,6 +19,7 @@ fn copy(from: &[Cell], to: &mut [Cell], count: usize)
     to[..count].copy_from_slice(&from[..count]);
 }
 
+// kept: the two lists stand apart with their room, here and in a sweep, since each is read and written in turn, and a struct of two `&mut` would say again that both are the same references.
 // Rounds to the fixed point: how many there are, and the final cells in both lists.
 fn settle<B: Board, C: Cost>(board: &B, one: &mut [Cell], two: &mut [Cell]) -> u32
     requires { (length (B.meaning board.now).rows ≤ length one.old) × (length (B.meaning board.now).rows ≤ length two.old) }

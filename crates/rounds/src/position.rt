@@ -20,6 +20,7 @@ pub(crate) struct Round<'a, B: Board> {
     ghost room: { length (B.meaning board.now).rows ≤ length cells.now },
 }
 
+// kept: `p` is below the count in each contract, since it is a plain number of the loop that asks.
 impl<'a, B: Board> Round<'a, B> {
     // The value through move `m` of `p`.
     fn move_value<C: Cost>(&self, p: u32, m: u32) -> Option<C>

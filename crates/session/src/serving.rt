@@ -31,6 +31,7 @@ fn attend<'a, B: Board, C: Cost, D: Desk>(
     ensures cut { IfErr result (λ _. CutShort (D.Desk.told desk.old) (D.Desk.told desk.new) (D.Desk.broken desk.new)) }
 {
     desk.show(Shown::Begun(run.progress()))?;
+    // kept: a count that is never reached stands for a loop that the desk ends.
     for _ in 0..u64::MAX {
         let Some(event) = desk.next() else {
             return Ok(());

@@ -4,7 +4,6 @@ ghost use Rattle.std.specs.Fn.{FnOnceReturnsAt};
 ghost use Rattle.sheet_format.specs.Reading.{LineReading, fault, next_line, header, section};
 ghost use Rattle.sheet.specs.Takes.{NextLine, Reads, Takes, TakesInto};
 
-use crate::parts::fault;
 use crate::reader::Reader;
 use lines::{LineKind, header_line};
 use refusal::Refusal;
@@ -27,7 +26,7 @@ impl<'a> Reader<'a> {
     fn next_line(&mut self) -> Result<Line<'a>, Fault>
         ensures { NextLine self.old self.new result }
     {
-        let ends_early = fault(Refusal::EndsEarly, self.line);
+        let ends_early = Fault::new(Refusal::EndsEarly, self.line, 0);
         let line = Line::first(self.sheet, self.at, self.line).ok_or(ends_early)?;
         self.at += line.bytes.len() + 1;
         self.line += 1;

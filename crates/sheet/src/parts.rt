@@ -1,10 +1,5 @@
 // What reading a sheet answers and asks.
-ghost use Rattle.std.specs.Prelude.{◌≡◌};
-ghost use Rattle.sheet_format.specs.Reading.{fault};
-
 use entries::{Arrow, Move, Position, Rule, Start};
-use refusal::Refusal;
-use sheet_format::Fault;
 
 /// What an accepted sheet holds: how many entries stand at the front of each table, and its start line.
 #[derive(Clone, Copy, Debug, PartialEq)]
@@ -48,16 +43,5 @@ impl Lists {
             arrows: [Arrow::default(); 256],
             rules: [Rule::Met(0); 5],
         }
-    }
-}
-
-// The fault of a line as a whole, or of the sheet at line 0.
-pub(crate) fn fault(refusal: Refusal, line: usize) -> Fault
-    ensures { result ≡ fault refusal line 0 }
-{
-    Fault {
-        refusal,
-        line,
-        word: 0,
     }
 }

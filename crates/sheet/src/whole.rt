@@ -2,7 +2,7 @@
 ghost use Rattle.sheet.specs.Filled.{ReadsInto};
 ghost use Rattle.sheet.specs.Sections.{room_of};
 
-use crate::parts::{Capacity, Lists, Outline, fault};
+use crate::parts::{Capacity, Lists, Outline};
 use crate::reader::Reader;
 use crate::sections::read_sections;
 use refusal::Refusal;
@@ -13,7 +13,7 @@ pub(crate) fn read_whole(sheet: &[u8], room: Capacity, lists: &mut Lists) -> Res
     ensures { ReadsInto (room_of room) sheet.now lists.new result }
 {
     if sheet.len() > 65536 {
-        return Err(fault(Refusal::TooLong, 0));
+        return Err(Fault::new(Refusal::TooLong, 0, 0));
     }
     let mut reader = Reader {
         sheet,
@@ -22,7 +22,7 @@ pub(crate) fn read_whole(sheet: &[u8], room: Capacity, lists: &mut Lists) -> Res
     };
     let outline = read_sections(&mut reader, room, lists)?;
     if reader.at < sheet.len() {
-        return Err(fault(Refusal::PastTheEnd, reader.line));
+        return Err(Fault::new(Refusal::PastTheEnd, reader.line, 0));
     }
     Ok(outline)
 }

@@ -1,8 +1,10 @@
 //! The format of a bench sheet: what a sheet says, how it is read, how it is spelled, and the laws that tie the two.
 #![tactic(auto)]
 
-ghost use Rattle.std.specs.Prelude.{Some};
+ghost use Rattle.std.specs.Prelude.{◌≡◌, Some};
 ghost use Rattle.sheet_format.specs.Faults.{fault_text};
+ghost use Rattle.sheet_format.specs.Fields.{line_fault};
+ghost use Rattle.sheet_format.specs.Reading.{fault};
 
 use refusal::Refusal;
 use std::fmt;
@@ -13,6 +15,19 @@ pub struct Fault {
     pub refusal: Refusal,
     pub line: usize,
     pub word: usize,
+}
+
+impl Fault {
+    /// The fault of this refusal, at a word of a line, or at word 0 for the whole line.
+    pub fn new(refusal: Refusal, line: usize, word: usize) -> Fault
+        ensures { result ≡ fault refusal line word }
+    {
+        Fault {
+            refusal,
+            line,
+            word,
+        }
+    }
 }
 
 /// The refusal, the line and the word.
@@ -29,4 +44,13 @@ impl fmt::Display for Fault {
 pub struct LineFault {
     pub refusal: Refusal,
     pub word: usize,
+}
+
+impl LineFault {
+    /// The fault of this refusal, at a word, or at 0 for the whole line.
+    pub fn new(refusal: Refusal, word: usize) -> LineFault
+        ensures { result ≡ line_fault refusal word }
+    {
+        LineFault { refusal, word }
+    }
 }

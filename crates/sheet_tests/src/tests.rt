@@ -72,14 +72,6 @@ fn refused(rt: &impl Abort, sheet: &[u8], room: Room, fault: Fault) {
     assert_eq!(rt; tables, before());
 }
 
-fn fault(refusal: Refusal, line: usize, word: usize) -> Fault {
-    Fault {
-        refusal,
-        line,
-        word,
-    }
-}
-
 #[test]
 fn short_tables(rt: HostRuntime) {
     for &(room, line) in &[
@@ -110,44 +102,44 @@ fn short_tables(rt: HostRuntime) {
             5,
         ),
     ] {
-        refused(&rt, SHEET, room, fault(Refusal::ShortTable, line, 2));
+        refused(&rt, SHEET, room, Fault::new(Refusal::ShortTable, line, 2));
     }
 }
 
 #[test]
 fn refused_sheets(rt: HostRuntime) {
-    refused(&rt, b"", WHOLE, fault(Refusal::EndsEarly, 1, 0));
+    refused(&rt, b"", WHOLE, Fault::new(Refusal::EndsEarly, 1, 0));
     refused(
         &rt,
         b"positions 4096\n",
         WHOLE,
-        fault(Refusal::ShortTable, 1, 2),
+        Fault::new(Refusal::ShortTable, 1, 2),
     );
     refused(
         &rt,
         b"positions 4097\n",
         WHOLE,
-        fault(Refusal::OutOfRange, 1, 2),
+        Fault::new(Refusal::OutOfRange, 1, 2),
     );
     refused(
         &rt,
         b"positions 1\np r 0\nmoves 2\n0 0 0 0\n0 0 0 1\n",
         WHOLE,
-        fault(Refusal::PersonPays, 5, 0),
+        Fault::new(Refusal::PersonPays, 5, 0),
     );
     refused(
         &rt,
         b"positions 1\na - 0\nmoves 1\n0 0 1 1\nstates 1\nn\narrows 1\n0 0 0 0\nrules 1\nmet 0\nstart 1\n0 0 4294967296\n",
         WHOLE,
-        fault(Refusal::OutOfRange, 12, 3),
+        Fault::new(Refusal::OutOfRange, 12, 3),
     );
     refused(
         &rt,
         b"positions 1\na - 0\nmoves 1\n0 0 1 1\nstates 1\nn\narrows 1\n0 0 0 0\nrules 1\nmet 0\nstart 1\n0 0 0\nx",
         WHOLE,
-        fault(Refusal::PastTheEnd, 13, 0),
+        Fault::new(Refusal::PastTheEnd, 13, 0),
     );
-    refused(&rt, &[10; 65537], WHOLE, fault(Refusal::TooLong, 0, 0));
+    refused(&rt, &[10; 65537], WHOLE, Fault::new(Refusal::TooLong, 0, 0));
 }
 
 // the sheet's entries, and the last ones as they were

@@ -8,6 +8,7 @@ use std::marker::PhantomData;
 /// Only solving makes one, and it is closed, not copied or dropped.
 pub struct Plan<'a, C> {
     pub(crate) cells: &'a [Cell],
+    // kept: a count beside the list, since the whole list is given back.
     pub(crate) count: u32,
     pub(crate) start: u32,
     pub(crate) rounds: u32,

@@ -5,6 +5,8 @@ ghost use Rattle.wording.specs.Texts.{value_text, choice_text};
 use crate::kinds::CostKind;
 use std::fmt;
 
+// kept: texts by a type of their own, since a cost is printed by its kind and an option has no Display.
+
 /// A cost of a kind, or none, by its two numbers.
 #[derive(Clone, Copy)]
 pub struct CostText {

@@ -8,7 +8,7 @@ pub returns-then-reader-sheet : goal.returns-then-reader-sheet
 returns-then-reader-sheet c =
     let got = c.in_ok-outline.ensures in
     let end = c.read_sections.new.reader in
-    rw c.fault-then-reader-sheet.ensures (something_left (room_of c.args.room) c.args.sheet.now (omega arith) _ end.line end.at _ (ap (λ s. drop end.at s.now) got.1) got.0 (omega arith))
+    rw c.new-then-reader-sheet.ensures (something_left (room_of c.args.room) c.args.sheet.now (omega arith) _ end.line end.at _ (ap (λ s. drop end.at s.now) got.1) got.0 (omega arith))
 
 pub returns : goal.returns
 returns c =
