@@ -15,7 +15,7 @@ use Rattle.load.specs.Boards.{task_board}
 use Rattle.report.specs.Reports.{budget_of, kind_listing, ListsKind, Reported}
 use Rattle.sheet_format.specs.Sheets.{Sheet}
 use Rattle.sheet_format.specs.declared.Fault.{Fault}
-use Rattle.wording.specs.Faults.{fault_text}
+use Rattle.sheet_format.specs.Faults.{fault_text}
 use Rattle.wording.specs.declared.kinds.CostKind.{CostKind}
 use Rattle.wording.specs.declared.kinds.CostKind.TheVariants.{Energy, Peak, Care}
 use Rattle.examples.proofs.Settled.{rounds_of, rounds_are}
