@@ -17,8 +17,8 @@ use Rattle.sheet_format.specs.Lines.{is_person}
 use Rattle.table.specs.Fit.{move_fits, span, entry_fits, tables_fit}
 
 -- all elements that pass a test have what it shows
-passed : {X : Type 0} (f : X → Bool) (P : X → Type 0) → ((x : X) → f x ≡ true → P x) → (xs : List X) → list_all f xs ≡ true → All P xs
-passed f P show xs h = All-weaker (λ x. f x ≡ true) P show xs (AllPass-from_list_all f xs h)
+pub every_all : {X : Type 0} (f : X → Bool) (P : X → Type 0) → ((x : X) → f x ≡ true → P x) → (xs : List X) → list_all f xs ≡ true → All P xs
+every_all f P show xs h = All-weaker (λ x. f x ≡ true) P show xs (AllPass-from_list_all f xs h)
 
 person_free : (turn : Turn) (m : Move) → cond (is_person turn) (m.bruise == 0 && m.energy == 0) true ≡ true → turn ≡ Person → (m.bruise ≡ 0) × (m.energy ≡ 0)
 person_free turn m h e =
@@ -46,7 +46,7 @@ entry_parts n ms e h =
     let a = and_parts _ _ h in
     let b = and_parts _ _ a.1 in
     let d = and_parts _ _ b.1 in
-    (ltb-true e.position.label 65536 a.0, leb-true e.degree 64 b.0, leb-true (e.first + e.degree) (length ms) d.0, passed (move_fits n e.position.turn) (λ m. MoveInRange n e.position.turn (step_of m)) (move_shows n e.position.turn) (span ms e) d.1)
+    (ltb-true e.position.label 65536 a.0, leb-true e.degree 64 b.0, leb-true (e.first + e.degree) (length ms) d.0, every_all (move_fits n e.position.turn) (λ m. MoveInRange n e.position.turn (step_of m)) (move_shows n e.position.turn) (span ms e) d.1)
 
 pub entry_shows : (n : ℕ) (ms : List Move) (e : PositionEntry) → entry_fits n ms e ≡ true → EntryHolds n ms e
 entry_shows n ms e h =
@@ -66,7 +66,7 @@ fit_parts : (es : List PositionEntry) (ms : List Move) (start : ℕ) → tables_
 fit_parts es ms start h =
     let a = and_parts _ _ h in
     let b = and_parts _ _ a.1 in
-    (leb-true (length es) 4096 a.0, ltb-true start (length es) b.0, passed (entry_fits (length es) ms) (EntryHolds (length es) ms) (entry_shows (length es) ms) es b.1)
+    (leb-true (length es) 4096 a.0, ltb-true start (length es) b.0, every_all (entry_fits (length es) ms) (EntryHolds (length es) ms) (entry_shows (length es) ms) es b.1)
 
 pub fit_entries : (es : List PositionEntry) (ms : List Move) (start : ℕ) → tables_fit es ms start ≡ true → All (EntryHolds (length es) ms) es
 fit_entries es ms start h = (fit_parts es ms start h).2
