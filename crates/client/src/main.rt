@@ -25,7 +25,7 @@ fn planned<'a, B: Board, C: Cost>(
     one: &'a mut [Cell],
     two: &mut [Cell],
 ) -> Result<Plan<'a, C>, Refusal> {
-    // kept: map_err takes the lent cells into a closure, which gets no proof
+    // kept: a match; map_err was tried, and takes the lent cells into a closure, which gets no proof
     match solve::<B, C>(board, 0, 5, one, two) {
         Ok(plan) => Ok(plan),
         Err(unsolved) => Err(unsolved.why),

@@ -117,9 +117,9 @@ impl<R: BufRead + Drop, W: Write + Drop> Console<R, W> {
         ensures log { IfOk result (λ _. self.new.log.items ≡ self.old.log.items ++ (shown ∷ [])) }
     {
         let kind = self.kind;
-        say(&mut self.output, ShownText { kind, shown })?;
+        let printed = say(&mut self.output, ShownText { kind, shown });
         self.log.push(shown)?;
-        Ok(())
+        printed
     }
 
     /// Prints how the session ended: where the run was, if `end` was read, or why none began.
@@ -156,11 +156,17 @@ impl<R: BufRead + Drop, W: Write + Drop> Desk for Console<R, W> {
     ghost broken = { λ c. c.state ≡ Failed };
 
     fn next(&mut self) -> Option<Event> {
+        if matches!(self.state, State::Failed) {
+            return None;
+        }
         let read = self.read();
         self.noted(read).flatten()
     }
 
     fn show(&mut self, shown: Shown) -> Result<(), Cut> {
+        if matches!(self.state, State::Failed) {
+            return Err(Cut);
+        }
         let outcome = self.keep(shown);
         self.noted(outcome).ok_or(Cut)
     }

@@ -3,9 +3,9 @@ use crate::desk::Console;
 use board::Board;
 use cells::Cell;
 use cost::{Care, Energy, Peak};
-use load::{Bench, LoadError, load};
+use load::{Bench, load};
 use session::{Served, serve};
-use std::alloc::{AllocError, Global};
+use std::alloc::Global;
 use std::io;
 use std::io::{BufRead, Write};
 use wording::{CostKind, Named};
@@ -14,11 +14,14 @@ use wording::{CostKind, Named};
 fn follow_kind<C: Named, R: BufRead + Drop, W: Write + Drop>(
     heap: Global,
     bench: &Bench,
-    mut console: Console<R, W>,
+    input: R,
+    output: W,
 ) -> io::Result<()> {
     let count = bench.board.count() as usize;
     let mut one = vec![in heap; Cell::default(); count]?;
     let mut two = vec![in heap; Cell::default(); count]?;
+    // kept: made here from its parts, since here the type says the kind.
+    let mut console = Console::new(heap, C::KIND, input, output);
     match serve::<_, C, _>(
         &bench.board,
         bench.start.bruise,
@@ -47,16 +50,15 @@ pub fn follow<R: BufRead + Drop, W: Write + Drop>(
     mut output: W,
 ) -> io::Result<()> {
     match load(heap, sheet) {
-        Ok(bench) => {
-            let console = Console::new(heap, kind, input, output);
-            // kept: here the word picks the type
-            match kind {
-                CostKind::Energy => follow_kind::<Energy, R, W>(heap, &bench, console),
-                CostKind::Peak => follow_kind::<Peak, R, W>(heap, &bench, console),
-                CostKind::Care => follow_kind::<Care, R, W>(heap, &bench, console),
-            }
+        // kept: here the word picks the type
+        Ok(bench) => match kind {
+            CostKind::Energy => follow_kind::<Energy, R, W>(heap, &bench, input, output),
+            CostKind::Peak => follow_kind::<Peak, R, W>(heap, &bench, input, output),
+            CostKind::Care => follow_kind::<Care, R, W>(heap, &bench, input, output),
+        },
+        Err(error) => {
+            let fault = error.fault()?;
+            writeln!(output, "{fault}")
         }
-        Err(LoadError::Refused(fault)) => writeln!(output, "{fault}"),
-        Err(LoadError::Memory) => Err(AllocError.into()),
     }
 }

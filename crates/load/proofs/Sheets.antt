@@ -1,16 +1,16 @@
 -- The tables after a sheet was read hold the sheet.
-use Rattle.std.proofs.Common.{◌≡◌, ℕ, suc, Bool, List, [], ◌∷◌, length, take, drop, Ok, Err, Result, sym, refl, ap, ◌∙◌, subst, arith}
+use Rattle.sheet.proofs.Spans.{length_entries}
+use Rattle.std.proofs.Common.{◌≡◌, ℕ, Bool, List, length, take, drop, Ok, Err, Result, sym, refl, ap, ◌∙◌, subst, arith}
 use Rattle.std.proofs.ByRecursion.{All-get_or}
 use Rattle.std.proofs.lemmas.List.{take-append-le, take_all}
 use Rattle.automaton.specs.Follows.{Whole, absent_arrow}
 use Rattle.entries.specs.declared.Arrow.{Arrow}
 use Rattle.entries.specs.declared.Move.{Move}
-use Rattle.entries.specs.declared.Position.{Position}
 use Rattle.entries.specs.declared.PositionEntry.{PositionEntry}
 use Rattle.entries.specs.declared.Rule.{Rule}
 use Rattle.sheet.specs.Filled.{outline_of, outlined, filled}
 use Rattle.sheet.specs.declared.parts.Outline.{Outline}
-use Rattle.sheet_format.specs.Boards.{entries_from, sheet_entries}
+use Rattle.sheet_format.specs.Boards.{sheet_entries}
 use Rattle.sheet_format.specs.Laws.{OnlySpellings}
 use Rattle.sheet_format.specs.Read.{read_sheet}
 use Rattle.sheet_format.specs.Sheets.{Sheet, Room}
@@ -26,11 +26,6 @@ outlined_ok (Err f) o e = let z : ◌≡◌ {A = ℕ} 0 1 = cc in absurd (omega 
 pub outlined_err : (r : Result Sheet Fault) (f : Fault) → Err f ≡ outlined r → r ≡ Err f
 outlined_err (Ok s) f e = let z : ◌≡◌ {A = ℕ} 0 1 = cc in absurd (omega arith)
 outlined_err (Err g) f e = cc
-
--- as many entries as positions
-pub length_entries : (ms : List Move) (p : ℕ) (xs : List Position) → length (entries_from ms p xs) ≡ length xs
-length_entries ms p [] = refl
-length_entries ms p (x ∷ xs) = ap suc (length_entries ms (suc p) xs)
 
 -- the front of a filled table is the sheet's section
 pub front_filled : {A : Type 0} (f : Sheet → List A) (r : Result Sheet Fault) (s : Sheet) (old now : List A) (n : ℕ) → r ≡ Ok s → now ≡ filled f r old → n ≡ length (f s) → take n now ≡ f s

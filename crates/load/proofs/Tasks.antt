@@ -1,12 +1,11 @@
 -- The board of a sheet with its tasks joined.
-use Rattle.std.proofs.Common.{◌≡◌, ℕ, suc, ◌*◌, ◌^◌, ◌≤◌, max, true, false, cond, ◌&&◌, leb, List, [], ◌∷◌, length, Ok, Err, Decides, Result, sym, refl, ap, ◌∙◌, subst}
+use Rattle.sheet_format.proofs.Rows.{length_rows}
+use Rattle.std.proofs.Common.{◌≡◌, ℕ, ◌*◌, ◌^◌, ◌≤◌, max, true, false, cond, ◌&&◌, leb, List, length, Ok, Err, Decides, Result, sym, ap, ◌∙◌, subst}
 use Rattle.std.proofs.lemmas.Bool.{le-leb}
 use Rattle.std.proofs.lemmas.Bool.Decides.{Decides-at, Decides-and, Decides-like}
 use Rattle.std.specs.List.{AllByRecursion}
 use Rattle.automaton.specs.Arrows.{automaton_dfa}
 use Rattle.board.specs.Table.{Table, row_at}
-use Rattle.entries.specs.declared.Move.{Move}
-use Rattle.entries.specs.declared.Position.{Position}
 use Rattle.flat.specs.Meaning.{flat_meaning, flat_ranges}
 use Rattle.flat.specs.declared.holder.FlatBoard.{FlatBoard}
 use Rattle.joined.specs.Meant.{join_size, meant}
@@ -16,7 +15,7 @@ use Rattle.refusal.specs.declared.Refusal.TheVariants.{JoinTooLarge}
 use Rattle.rules.proofs.Each.{rules_are}
 use Rattle.rules.specs.Digits.{rules_dfa}
 use Rattle.rules.specs.Holds.{Holds}
-use Rattle.sheet_format.specs.Boards.{rows_from, sheet_board}
+use Rattle.sheet_format.specs.Boards.{sheet_board}
 use Rattle.sheet_format.specs.Fields.{on_ok}
 use Rattle.sheet_format.specs.Read.{read_sheet}
 use Rattle.sheet_format.specs.Reading.{fault}
@@ -25,11 +24,6 @@ use Rattle.sheet_format.specs.declared.Fault.{Fault}
 use Rattle.task.specs.Dfa.{Dfa, accepts}
 use Rattle.twice.specs.Twice.{RoomForBoth}
 use Rattle.load.specs.Boards.{task_board_size, largest_room, load_sheet, Finished, FinishesTask}
-
--- as many rows as positions
-pub length_rows : (ms : List Move) (p : ℕ) (xs : List Position) → length (rows_from ms p xs) ≡ length xs
-length_rows ms p [] = refl
-length_rows ms p (x ∷ xs) = ap suc (length_rows ms (suc p) xs)
 
 -- a join that fits is the whole join
 meant_whole : (t : Table) (d : Dfa) → join_size t d ≤ 4096 → meant t d ≡ joined t d
@@ -64,9 +58,6 @@ pub not_loaded : (bs : List ℕ) (s : Sheet) (b : leb (task_board_size s) 4096 �
 not_loaded bs s b e =
     ap (λ r. on_ok r (λ x. cond (leb (task_board_size x) 4096) (Ok x) (Err (fault JoinTooLarge 0 0)))) e
     ∙ ap (λ b. cond b (found s) (Err (fault JoinTooLarge 0 0))) b
-
-pub faulty : (bs : List ℕ) (f : Fault) → read_sheet largest_room bs ≡ Err f → load_sheet bs ≡ Err f
-faulty bs f e = ap (λ r. on_ok r (λ x. cond (leb (task_board_size x) 4096) (Ok x) (Err (fault JoinTooLarge 0 0)))) e
 
 -- the two tests of a finished task, and what they say
 finished_is : (s : Sheet) (ks : List ℕ)

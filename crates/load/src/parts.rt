@@ -1,5 +1,5 @@
 // What loading a sheet answers.
-ghost use Rattle.std.specs.Prelude.{◌≡◌};
+ghost use Rattle.std.specs.Prelude.{◌≡◌, MatchResult};
 ghost use Rattle.sheet_format.specs.Reading.{fault};
 ghost use Rattle.load.specs.declared.parts.LoadError.TheVariants.{Refused, Memory};
 
@@ -23,6 +23,18 @@ pub enum LoadError {
     Refused(Fault),
     /// There is no memory.
     Memory,
+}
+
+impl LoadError {
+    /// The fault that refuses the sheet, or the want of memory.
+    pub fn fault(self) -> Result<Fault, AllocError>
+        ensures { MatchResult result (λ f. self ≡ Refused f) (λ _. self ≡ Memory) }
+    {
+        match self {
+            LoadError::Refused(found) => Ok(found),
+            LoadError::Memory => Err(AllocError),
+        }
+    }
 }
 
 impl From<AllocError> for LoadError {

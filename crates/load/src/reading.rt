@@ -8,18 +8,8 @@ use crate::parts::{Bench, LoadError};
 use crate::tables::Tables;
 use entries::{Arrow, Move, PositionEntry, Rule};
 use sheet::read;
+use sheet_format::{MOST_ARROWS, MOST_MOVES, MOST_POSITIONS, MOST_RULES, MOST_STATES};
 use std::alloc::{AllocError, Global};
-
-// Room for the largest sheet.
-const MOST_POSITIONS: usize = 4096;
-
-const MOST_MOVES: usize = 4096;
-
-const MOST_STATES: usize = 64;
-
-const MOST_ARROWS: usize = 256;
-
-const MOST_RULES: usize = 5;
 
 // The first `n` entries of a table.
 fn front<T: Copy>(heap: Global, table: &[T], n: usize) -> Result<Vec<T>, AllocError>

@@ -12,6 +12,7 @@ use std::alloc::{AllocError, Global};
 use wording::Named;
 
 // Solves a board for one kind of cost, and appends its listing.
+// kept: the lists stand apart, since solving takes them so.
 fn push_kind<B: Board, C: Named>(
     out: &mut String,
     board: &B,
@@ -23,14 +24,12 @@ fn push_kind<B: Board, C: Named>(
     requires two { length (B.meaning board.now).rows ≤ length two.old }
     ensures { OnOk result (AppendsKind C.Named.KIND C.kind (B.meaning board.now) start (string_bytes out.old) (string_bytes out.new)) }
 {
-    match solve::<B, C>(board, start.bruise, start.energy, one, two) {
-        Ok(plan) => {
-            let listed = push_listing(out, board, &plan);
-            let _ = plan.close();
-            listed
-        }
-        Err(_) => unreachable!(),
-    }
+    let Ok(plan) = solve::<B, C>(board, start.bruise, start.energy, one, two) else {
+        unreachable!()
+    };
+    let listed = push_listing(out, board, &plan);
+    let _ = plan.close();
+    listed
 }
 
 // Appends the listings of a board for energy, peak and care.

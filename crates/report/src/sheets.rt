@@ -4,7 +4,7 @@ ghost use Rattle.load.specs.Boards.{load_sheet};
 ghost use Rattle.report.specs.Reports.{Reported};
 
 use crate::kinds::push_kinds;
-use load::{LoadError, load};
+use load::load;
 use std::alloc::{AllocError, Global};
 
 /// The listing of a sheet's board for energy, peak and care, or the sheet's refusal. It fails only for want of memory.
@@ -17,7 +17,9 @@ pub fn report(heap: Global, sheet: &[u8]) -> Result<String, AllocError>
             push_kinds(heap, &mut out, &bench.board, bench.start)?;
             Ok(out)
         }
-        Err(LoadError::Refused(fault)) => format!(in heap; "{fault}\n"),
-        Err(LoadError::Memory) => Err(AllocError),
+        Err(error) => {
+            let fault = error.fault()?;
+            format!(in heap; "{fault}\n")
+        }
     }
 }

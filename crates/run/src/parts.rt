@@ -17,6 +17,7 @@ pub struct Unbegun<'a, C> {
 }
 
 /// What a run answers to an event that it accepts.
+// kept: no Option of a move, since both cases say what happened.
 #[derive(Clone, Copy, Debug, PartialEq)]
 pub enum Answer {
     /// The arm begins this move.

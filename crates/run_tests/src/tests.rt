@@ -120,7 +120,7 @@ fn run_steps(first: Board, energy: u32, steps: &[Step]) -> Result<bool, Refusal>
     let mut one = [Cell::default(); 4];
     let mut two = [Cell::default(); 4];
     let own = tables.board(Board::Own);
-    // kept: map_err takes the lent cells into a closure, which gets no proof
+    // kept: a match; map_err was tried, and takes the lent cells into a closure, which gets no proof
     let plan = match solve::<_, Care>(&own, 0, energy, &mut one, &mut two) {
         Ok(plan) => plan,
         Err(unsolved) => return Err(unsolved.why),

@@ -22,6 +22,7 @@ pub enum Shown {
 }
 
 /// How a session ended.
+// kept: no Result, since it has two ways of not ending here, of which one has a refusal.
 #[derive(Clone, Copy, Debug, PartialEq)]
 pub enum Ending {
     /// The run was ended here.

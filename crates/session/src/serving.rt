@@ -47,6 +47,7 @@ fn attend<'a, B: Board, C: Cost, D: Desk>(
     Err(Cut)
 }
 
+// kept: the budget and the lists as parameters, as solving takes them.
 /// Solves a board, begins a run, tells it the desk's events one by one, shows the desk what each answered, and ends it.
 /// Every time it is not refused, the plan that it hands back keeps the whole promise, and the desk's log is what the definition of a run gives for the events told.
 /// A cell list that is shorter than the board is refused, and then nothing has happened.

@@ -14,11 +14,7 @@ use words::Line;
 fn at_line(line: usize, e: LineFault) -> Fault
     ensures { result ≡ fault e.refusal line e.word }
 {
-    Fault {
-        refusal: e.refusal,
-        line,
-        word: e.word,
-    }
+    Fault::new(e.refusal, line, e.word)
 }
 
 impl<'a> Reader<'a> {
@@ -46,7 +42,7 @@ impl<'a> Reader<'a> {
     }
 
     // A section: its header, then an entry for each line, written to the front of a table.
-    // kept: the name, the limits and the room stand apart, since `header_line` takes them so.
+    // kept: the name, the limits and the room as parameters, since a struct of them would be made six times and taken apart once.
     pub(crate) fn read_section<E: Copy, K: LineKind<E>>(
         &mut self,
         kind: &K,

@@ -6,13 +6,13 @@ use crate::parts::{Capacity, Lists, Outline};
 use crate::reader::Reader;
 use crate::sections::read_sections;
 use refusal::Refusal;
-use sheet_format::Fault;
+use sheet_format::{Fault, MOST_BYTES};
 
 // Reads a whole sheet, each section to the front of its list.
 pub(crate) fn read_whole(sheet: &[u8], room: Capacity, lists: &mut Lists) -> Result<Outline, Fault>
     ensures { ReadsInto (room_of room) sheet.now lists.new result }
 {
-    if sheet.len() > 65536 {
+    if sheet.len() > MOST_BYTES {
         return Err(Fault::new(Refusal::TooLong, 0, 0));
     }
     let mut reader = Reader {

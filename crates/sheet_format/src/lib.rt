@@ -9,7 +9,22 @@ ghost use Rattle.sheet_format.specs.Reading.{fault};
 use refusal::Refusal;
 use std::fmt;
 
-/// A fault of a sheet: the refusal, and the line and the word where it was found, both from 1.
+/// The most bytes of a sheet.
+pub const MOST_BYTES: usize = 65536;
+
+/// The most entries of each section.
+pub const MOST_POSITIONS: usize = 4096;
+
+pub const MOST_MOVES: usize = 4096;
+
+pub const MOST_STATES: usize = 64;
+
+pub const MOST_ARROWS: usize = 256;
+
+pub const MOST_RULES: usize = 5;
+
+/// A fault of a sheet: the refusal, and the line and the word where it was found, both from 1, or 0 for the whole line or sheet.
+// kept: 0 and no Option, here and in a line's fault, since 0 is what the format says and prints.
 #[derive(Clone, Copy, Debug, PartialEq)]
 pub struct Fault {
     pub refusal: Refusal,

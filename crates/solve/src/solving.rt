@@ -40,7 +40,7 @@ pub fn solve<'a, B: Board, C: Cost>(
     ensures other { MatchResult result (λ p. two.new ≡ solved_cells C.kind (B.meaning board.now) p.rounds two.old) (λ _. two.new ≡ two.old) }
     ensures when { MatchResult result (λ _. Room (B.meaning board.now) one.old two.old) (λ _. Short (B.meaning board.now) one.old two.old) }
 {
-    // kept: the lists stand apart, since the plan keeps the first and gives the other back at once; and a match, since a closure for `map_err` would take `one`.
+    // kept: bruise and energy as parameters, as the charge of a move; the lists apart, since the plan keeps the first and gives the other back at once; and a match, since a closure for `map_err` would take `one`.
     match final_cells::<B, C>(board, one, two) {
         Ok(rounds) => {
             let budget = C::charge(bruise, energy);

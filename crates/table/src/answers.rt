@@ -50,6 +50,7 @@ impl<'a> Board for TableBoard<'a> {
         let entry = self.entry(p)?;
         let first = entry.first as usize;
         let moves = &self.moves[first..first + entry.degree as usize];
+        // kept: no From, since a line of a sheet becomes a step here alone.
         moves.get(k as usize).map(|m| Step {
             target: m.to,
             bruise: m.bruise,

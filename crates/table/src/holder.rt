@@ -5,6 +5,7 @@ ghost use Rattle.table.specs.Fit.{tables_fit};
 use entries::{Move, PositionEntry};
 
 /// A board over a position table and a move table that hold one.
+// kept: an entry names its moves by their place in the move table, since both tables are lent.
 #[derive(Clone, Copy)]
 pub struct TableBoard<'a> {
     pub(crate) entries: &'a [PositionEntry],

@@ -1,6 +1,5 @@
 -- Two joins, one over the other.
-use Rattle.std.proofs.Common.{◌≡◌, ℕ, zero, suc, ◌+◌, ◌*◌, ◌<◌, ◌≤◌, ◌&&◌, List, [], ◌∷◌, length, take, sym, ap, ◌∙◌, subst, ap₂, arith}
-use Rattle.std.proofs.lemmas.Nat.{mul-le}
+use Rattle.std.proofs.Common.{◌≡◌, ℕ, zero, suc, ◌+◌, ◌*◌, ◌≤◌, ◌&&◌, List, [], ◌∷◌, length, take, sym, ap, ◌∙◌, subst, ap₂}
 use Rattle.board.specs.Table.{Table}
 use Rattle.board.specs.Ranges.{InRange}
 use Rattle.plays.specs.Paths.{move_of, IsPath}
@@ -61,9 +60,3 @@ double_meant t a b fair ra rb small smaller =
 -- the size of both joins
 pub size_both : (t : Table) (a b : Dfa) → join_size t a ≤ 4096 → join_size (meant t a) b ≡ length t.rows * a.states * b.states
 size_both t a b small = ap (λ j. length j.rows * b.states) (whole t a small) ∙ ap (λ n. n * b.states) (joined_count t a)
-
--- a first join that is too large makes both too large
-pub size_grows : (t : Table) (a b : Dfa) → DfaInRange b → 4096 < join_size t a → 4096 < length t.rows * a.states * b.states
-size_grows t a b rb large =
-    let more : join_size t a * 1 ≤ join_size t a * b.states = mul-le (join_size t a) 1 (join_size t a) b.states (omega arith) (omega (arith, rb.starts)) in
-    omega (arith, large, more)
