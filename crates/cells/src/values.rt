@@ -12,8 +12,8 @@ use cost::Cost;
 pub fn read<C: Cost>(cost: Option<(u32, u32)>) -> Option<C>
     ensures { result ≡ option_map C.kind.read cost }
 {
-    // kept: no `map`, which gets no proof for a function whose result alone names a type parameter
-    Some(C::from_numbers(cost?))
+    // kept: a closure, since a bare `C::from_numbers` gets no proof: its arguments do not name `C`
+    cost.map(|numbers| C::from_numbers(numbers))
 }
 
 /// A value as a cell keeps it.

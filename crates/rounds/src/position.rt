@@ -44,22 +44,21 @@ impl<'a, B: Board> Round<'a, B> {
                 choice: None,
             };
         }
-        let first = self.move_value::<C>(p, 0);
-        let mut lead = Lead {
-            value: first,
+        let first = Lead {
+            value: self.move_value::<C>(p, 0),
             choice: Some(0),
         };
-        // kept: a loop, since a fold's closure would need clauses of its own for each move, and says no more
-        for m in 1..degree {
+        (1..degree).fold(first, |lead, m| {
             let value = self.move_value::<C>(p, m);
             if better(turn, value, lead.value) {
-                lead = Lead {
+                Lead {
                     value,
                     choice: Some(m),
-                };
+                }
+            } else {
+                lead
             }
-        }
-        lead
+        })
     }
 
     // The cell of `p` after round `n + 1`, from the cells after round `n`.
