@@ -1,8 +1,7 @@
 -- The best of the values so far, with the lowest place that has it, is the best of the row and its lowest move.
-use Rattle.std.proofs.Common.{◌≡◌, ℕ, zero, suc, ◌+◌, ◌-◌, ◌<◌, ◌≤◌, Bool, true, false, not, List, [], ◌∷◌, map, length, cond, get_or, Some, None, Option, sym, refl, ap, ◌∙◌, subst, ⊎_elim, not-suc-le-zero, arith}
+use Rattle.std.proofs.Common.{◌≡◌, ℕ, suc, ◌+◌, ◌<◌, ◌≤◌, Bool, true, false, not, List, [], ◌∷◌, map, length, get_or, Some, None, Option, sym, refl, ap, ◌∙◌, subst, ⊎_elim, not-suc-le-zero, arith}
 use Rattle.std.proofs.lemmas.List.{nil_from_length}
 use Rattle.std.proofs.lemmas.Bool.{both_ways, cases_lt, cases_order, cond_both}
-use Rattle.std.specs.List.{range_with_len, fold}
 use Rattle.board.specs.Table.{Row, move_at, absent_move}
 use Rattle.board.specs.declared.parts.Step.{Step}
 use Rattle.board.specs.declared.parts.Turn.{Turn}
@@ -16,7 +15,14 @@ use Rattle.orders.proofs.Lowest.{Found, lowest_found}
 use Rattle.game.specs.Rounds.{value_through, best}
 use Rattle.game.proofs.Values.{values, none_high}
 use Rattle.cells.specs.Leads.{turn_leq, Leads}
-use Rattle.cells.specs.declared.parts.Lead.{Lead}
+
+was_false : (b : Bool) → not b ≡ true → b ≡ false
+was_false true e = sym e
+was_false false e = refl
+
+was_true : (b : Bool) → not b ≡ false → b ≡ true
+was_true true e = refl
+was_true false e = sym e
 
 -- v is the value at i, no worse than any of the first n, and better than all before i
 pub record Leading {V : Type 0} (leq : V → V → Bool) (f : ℕ → V) (n : ℕ) (v : V) (i : ℕ) : Type 0 where
@@ -56,6 +62,13 @@ module _ {V : Type 0} {leq : V → V → Bool} (o : Order leq) (f : ℕ → V) w
     none_better = one_more n v w at l.none_better still;
     first = l.first;
   }
+
+  -- the same of a best that is named anew, as a loop does
+  pub leads_better : (n i : ℕ) (v w : V) → Leading leq f n v i → f n ≡ w → not (leq v w) ≡ true → (x : V) (j : ℕ) → x ≡ w → j ≡ n → Leading leq f (n + 1) x j
+  leads_better n i v w l at worse x j e d = subst (λ (y : V). Leading leq f (n + 1) y j) (sym e) (subst (λ (m : ℕ). Leading leq f (n + 1) w m) (sym d) (leads_next n i v w l at (was_false _ worse)))
+
+  pub leads_kept : (n i : ℕ) (v w : V) → Leading leq f n v i → f n ≡ w → not (leq v w) ≡ false → (x : V) (j : ℕ) → x ≡ v → j ≡ i → Leading leq f (n + 1) x j
+  leads_kept n i v w l at still x j e d = subst (λ (y : V). Leading leq f (n + 1) y j) (sym e) (subst (λ (m : ℕ). Leading leq f (n + 1) v m) (sym d) (leads_still n i v w l at (was_true _ still)))
 
 -- the lowest place is the one that passes, if none before it does
 lowest_exact : {X : Type 0} (d : X) (test : X → Bool) (xs : List X) (i : ℕ) → i < length xs → test (get_or xs i d) ≡ true → ((j : ℕ) → j < i → test (get_or xs j d) ≡ false)
@@ -112,42 +125,6 @@ module _ {C : Type 0} (k : Kind C) (laws : CostLaws k) where
     choice = sym (lowest_exact absent_move (λ s. turn_leq k r.turn (value_through k w s) v) r.moves i l.inside
         (subst (λ u. turn_leq k r.turn u v ≡ true) (sym l.is) ((turn_order r.turn).reflexive v)) l.first);
   }
-
-  -- what leads among the first n values
-  abbrev LeadsFirst : Turn → (ℕ → Option C) → ℕ → Lead C → Type 0
-  LeadsFirst turn f n l = (i : ℕ) × (l.choice ≡ Some i) × Leading (turn_leq k turn) f n l.value i
-
-  -- the better of a lead and the value of move m
-  abbrev pub better_lead : Turn → (ℕ → Option C) → Lead C → ℕ → Lead C
-  better_lead turn f l m = cond (not (turn_leq k turn l.value (f m))) (record { value = f m; choice = Some m }) l
-
-  leads_more : (turn : Turn) (f : ℕ → Option C) (n : ℕ) (l : Lead C) → LeadsFirst turn f n l → LeadsFirst turn f (n + 1) (better_lead turn f l n)
-  leads_more turn f n l h = go (turn_leq k turn l.value (f n)) refl
-    where
-      go : (b : Bool) → turn_leq k turn l.value (f n) ≡ b → LeadsFirst turn f (n + 1) (cond (not b) (record { value = f n; choice = Some n }) l)
-      go true e = (h.0, h.1, leads_still (turn_order turn) f n h.0 l.value (f n) h.2 refl e)
-      go false e = (n, refl, leads_next (turn_order turn) f n h.0 l.value (f n) h.2 refl e)
-
-  leads_range : (turn : Turn) (f : ℕ → Option C) (n a : ℕ) (l : Lead C) → LeadsFirst turn f a l → LeadsFirst turn f (a + n) (fold (better_lead turn f) l (range_with_len a n))
-  leads_range turn f zero a l h = subst (λ (m : ℕ). LeadsFirst turn f m l) (omega arith) h
-  leads_range turn f (suc n) a l h =
-      subst (λ (m : ℕ). LeadsFirst turn f m (fold (better_lead turn f) l (range_with_len a (suc n)))) {x = a + 1 + n} (omega arith) (leads_range turn f n (a + 1) (better_lead turn f l a) (leads_more turn f a l h))
-
-  -- the first move, and then each of the others
-  pub leads_fold : (w : ℕ → Option C) (r : Row) (n : ℕ) (v : Option C) → n ≡ length r.moves → 0 < n → v ≡ value_through k w (move_at r 0)
-      → Leads k w r (fold (better_lead r.turn (λ m. value_through k w (move_at r m))) (record { value = v; choice = Some 0 }) (range_with_len 1 (n - 1)))
-  leads_fold w r n v e some at = let best = leads_all w r last.value h.0 h.2 in record { value = best.value; choice = h.1 ∙ best.choice }
-    where
-      f : ℕ → Option C
-      f m = value_through k w (move_at r m)
-
-      last : Lead C
-      last = fold (better_lead r.turn f) (record { value = v; choice = Some 0 }) (range_with_len 1 (n - 1))
-
-      h : LeadsFirst r.turn f (length r.moves) last
-      h =
-          subst (λ (m : ℕ). LeadsFirst r.turn f m last) {x = 1 + (n - 1)} (omega (arith, e, some))
-          (leads_range r.turn f (n - 1) 1 (record { value = v; choice = Some 0 }) (0, refl, leads_first (turn_order r.turn) f v (sym at)))
 
   none_best : (turn : Turn) → ◌≡◌ {A = Option C} None (best k turn [])
   none_best Arm = refl

@@ -1,12 +1,13 @@
-use Rattle.std.proofs.Common.{rules, ◌≡◌, length, ◌-◌, Some, sym, refl, subst, arith}
-use Rattle.std.proofs.lemmas.Iterator.{YieldsList-from_range}
-use Rattle.std.proofs.lemmas.Iterator.Consumers.{fold_from_yields_List}
-use Rattle.std.specs.List.{range_with_len, fold}
-use Rattle.board.specs.Table.{row_at, move_at}
+use Rattle.std.proofs.Common.{◌≡◌, ℕ, not, length, Option, sym, refl, ap, ◌∙◌, subst, arith}
+use Rattle.board.specs.Table.{row_at}
+use Rattle.board.specs.declared.parts.Turn.{Turn}
+use Rattle.game.specs.Plays.{degree, move_of}
 use Rattle.game.specs.Rounds.{value_through}
-use Rattle.cells.specs.Leads.{Leads}
+use Rattle.cells.specs.Leads.{turn_leq}
 use Rattle.cells.specs.Written.{values_of}
-use Rattle.cells.proofs.Leading.{better_lead, leads_fold, leads_none}
+use Rattle.cells.specs.declared.parts.Lead.{Lead}
+use Rattle.cells.proofs.Leading.{Leading, turn_order, leads_first, leads_better, leads_kept, leads_all, leads_none}
+use Rattle.rounds.proofs.position.Round.best_move.Goals.{then-better, else-better}
 use Rattle.rounds.proofs.position.Round.best_move.Goals as goal
 
 pub returns-then-degree-eq0 : goal.returns-then-degree-eq0
@@ -15,15 +16,38 @@ returns-then-degree-eq0 g c =
     let k = g.C.Cost.kind in
     leads_none k g.met.C.Cost.laws (values_of k (length t.rows) c.args.self.now.cells.now) (row_at t c.args.p) (omega (arith, c.degree_at-degree.ensures))
 
+pub loop-m-init : goal.loop-m-init
+loop-m-init g c =
+    let t = g.B.Board.meaning c.args.self.now.board.now in
+    let k = g.C.Cost.kind in
+    let f : ℕ → Option g.row.C.Denot = λ m. value_through k (values_of k (length t.rows) c.args.self.now.cells.now) (move_of t c.args.p m) in
+    (0, refl, leads_first (turn_order k g.met.C.Cost.laws (row_at t c.args.p).turn) f c.move_value-first.result (sym c.move_value-first.ensures))
+
+pub loop-m-preserved : goal.loop-m-preserved
+loop-m-preserved g c =
+    let t = g.B.Board.meaning c.args.self.now.board.now in
+    let k = g.C.Cost.kind in
+    let o = turn_order k g.met.C.Cost.laws (row_at t c.args.p).turn in
+    let f : ℕ → Option g.row.C.Denot = λ m. value_through k (values_of k (length t.rows) c.args.self.now.cells.now) (move_of t c.args.p m) in
+    let lead = c.loop-m.lead in
+    let i = c.loop-m.invariant.0 in
+    let leading = c.loop-m.invariant.2 in
+    let next = c.move_value-value.result in
+    let compared : not (turn_leq k (row_at t c.args.p).turn lead.value next) ≡ c.better.result =
+    subst (λ (x : Turn). not (turn_leq k x lead.value next) ≡ c.better.result) c.turn_at-turn.ensures (sym c.better.ensures) in
+    elim c.if-better.branch [
+      | then-better w ↦ (c.loop-m.m, ap (λ (l : Lead g.row.C.Denot). l.choice) w.lead-is, leads_better o f c.loop-m.m i lead.value next leading (sym c.move_value-value.ensures) (compared ∙ w.if-better.true) _ _ (ap (λ (l : Lead g.row.C.Denot). l.value) w.lead-is) refl)
+      | else-better w ↦ (i, ap (λ (l : Lead g.row.C.Denot). l.choice) w.lead-is ∙ c.loop-m.invariant.1, leads_kept o f c.loop-m.m i lead.value next leading (sym c.move_value-value.ensures) (compared ∙ w.if-better.false) _ _ (ap (λ (l : Lead g.row.C.Denot). l.value) w.lead-is) refl)
+    ]
+
 pub returns : goal.returns
 returns g c =
     let t = g.B.Board.meaning c.args.self.now.board.now in
     let k = g.C.Cost.kind in
     let w = values_of k (length t.rows) c.args.self.now.cells.now in
-    let r = row_at t c.args.p in
-    let h = better_lead k g.met.C.Cost.laws r.turn (λ m. value_through k w (move_at r m)) in
-    let n = c.degree_at-degree.result in
-    let v = c.move_value.result in
-    let folded : c.fold.result ≡ fold h (record { value = v; choice = Some 0 }) (range_with_len 1 (n - 1)) =
-    fold_from_yields_List _ h _ _ c.fold.ensures.ran (YieldsList-from_range 1 n _ refl refl) (λ a x b q e. search rules) in
-    subst (Leads k w r) (sym folded) (leads_fold k g.met.C.Cost.laws w r n v c.degree_at-degree.ensures (omega (arith, c.if-degree-eq0.false)) c.move_value.ensures)
+    let all : c.loop-m.m ≡ degree t c.args.p = omega (arith, c.degree_at-degree.ensures) in
+    let lead = c.loop-m.lead in
+    let i = c.loop-m.invariant.0 in
+    let best = leads_all k g.met.C.Cost.laws w (row_at t c.args.p) lead.value i
+    (subst (λ (n : ℕ). Leading (turn_leq k (row_at t c.args.p).turn) (λ m. value_through k w (move_of t c.args.p m)) n lead.value i) all c.loop-m.invariant.2) in
+    record { value = best.value; choice = c.loop-m.invariant.1 ∙ best.choice }
