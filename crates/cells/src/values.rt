@@ -12,7 +12,7 @@ use cost::Cost;
 pub fn read<C: Cost>(cost: Option<(u32, u32)>) -> Option<C>
     ensures { result ≡ option_map C.kind.read cost }
 {
-    // kept: no `map`, which gets no proof for a function whose result alone names a type parameter
+    // kept: no `map`: `C::from_numbers` by its name gets no proof there, and a closure that only calls it is no plainer than `?`
     Some(C::from_numbers(cost?))
 }
 

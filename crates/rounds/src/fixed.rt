@@ -30,6 +30,7 @@ fn settle<B: Board, C: Cost>(board: &B, one: &mut [Cell], two: &mut [Cell]) -> u
     let count = board.count() as usize;
     first_cells::<B, C>(board, one);
     let mut n: u32 = 0;
+    // kept: two rounds a turn: where two references are swapped in the loop, a proof does not know which list is which after it, and a function that calls itself with the lists exchanged may take stack for each round
     loop {
         if !next_cells::<B, C>(board, one, two, n) {
             copy(two, one, count);

@@ -49,7 +49,7 @@ impl<'a, B: Board> Round<'a, B> {
             value: first,
             choice: Some(0),
         };
-        // kept: a loop, since a fold's closure would need clauses of its own for each move, and says no more
+        // kept: a loop: a fold over `1..degree` proves, but a program with it (and `map` in `read`) took about a fifth longer
         for m in 1..degree {
             let value = self.move_value::<C>(p, m);
             if better(turn, value, lead.value) {

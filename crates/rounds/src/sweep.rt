@@ -24,7 +24,7 @@ pub(crate) fn first_cells<B: Board, C: Cost>(board: &B, to: &mut [Cell])
     requires { length (B.meaning board.now).rows ≤ length to.old }
     ensures { to.new ≡ written_over (B.meaning board.now) (round_cell C.kind (B.meaning board.now) 0) to.old }
 {
-    // kept: written by index, here and below, since a proof knows no element of a list after `iter_mut`
+    // kept: written by index, here and below: after `zip` with `iter_mut` a proof knows no element of the list, and `to[..count].iter_mut().enumerate()` adds a bound and a cast
     for p in 0..board.count() {
         to[p as usize] = first_cell::<B, C>(board, p);
     }
