@@ -1,27 +1,41 @@
 -- A numeral, digit by digit, its value stopping at the top.
-use Rattle.std.proofs.Common.{◌≡◌, ℕ, ◌+◌, ◌-◌, ◌*◌, ◌<◌, ◌≤◌, min, true, List, [], ◌∷◌, length, fold, Some, None, Option, MatchOption, sym, refl, ap, ◌∙◌, arith}
-use Rattle.std.specs.Char.{digit_value}
-use Rattle.std.specs.Str.Parse.{digits_value, digits_value_after}
+use Rattle.std.proofs.Common.{◌≡◌, ℕ, ◌+◌, ◌-◌, ◌*◌, ◌<◌, ◌≤◌, min, true, false, ◌&&◌, List, [], ◌∷◌, length, get_or, take, Some, None, Option, MatchOption, sym, refl, ap, ◌∙◌, arith}
+use Rattle.std.specs.Char.{is_ascii_digit, digit_value}
+use Rattle.std.specs.List.{list_all}
+use Rattle.std.specs.Str.Parse.{digits_value}
 use Rattle.std.specs.Str.{all_ascii_digits}
-use Rattle.std.proofs.lemmas.Bool.{and_parts, cond-true, cond-false, false_from_ne_true}
-use Rattle.std.proofs.lemmas.Bool.Decides.{nat_tests}
+use Rattle.std.proofs.lemmas.Bool.{both_ways, and_from, cond-true, cond-false, false_from_ne_true}
 use Rattle.std.proofs.lemmas.Grind.{common_steps}
-use Rattle.std.proofs.lemmas.Str.Parse.{numerals_by_value, tells_all_ascii_digits, digits_value_short}
+use Rattle.std.proofs.lemmas.Int.Digits.{digits_value_more}
+use Rattle.std.proofs.lemmas.List.Folds.{list_all_more, list_all_at}
+use Rattle.std.proofs.lemmas.Str.Parse.{numerals_by_value, tells_all_ascii_digits, digits_value_short, digit_from_value}
+use Rattle.std.proofs.lemmas.Str.{digit_value_digit}
 use Rattle.sheet_format.specs.Numbers.{is_number}
 use Rattle.words.specs.Kinds.{number_word}
 use Rattle.words.specs.Numerals.{Numeral}
 
-capped_step : (top v d n : ℕ) → n ≡ min v top → min (min (n * 10) top + d) top ≡ min (v * 10 + d) top
-capped_step top v d n e = omega arith
+-- the first i bytes are digits and write n, or more than the top
+pub record NumeralSoFar (w : List ℕ) (i n : ℕ) : Type 0 where
+  pub digits : all_ascii_digits (take i w) ≡ true
+  pub value_is : n ≡ min (digits_value 10 (take i w)) 18446744073709551615
 
-capped_from : (w : List ℕ) (n v : ℕ) → n ≡ min v 18446744073709551615 → all_ascii_digits w ≡ true → fold (λ m b. min (min (m * 10) 18446744073709551615 + (b - 48)) 18446744073709551615) n w ≡ min (digits_value_after 10 v w) 18446744073709551615
-capped_from [] n v e h = e
-capped_from (b ∷ w) n v e h =
-    let d : digit_value b ≡ b - 48 = grind (arith, nat_tests, common_steps) in
-    capped_from w _ (v * 10 + digit_value b) (rw d (capped_step 18446744073709551615 v (b - 48) n e)) ((and_parts _ _ h).1)
+all_digits_is : (w : List ℕ) → all_ascii_digits w ≡ list_all is_ascii_digit w
+all_digits_is [] = refl
+all_digits_is (b ∷ w) = ap (λ t. is_ascii_digit b && t) (all_digits_is w)
 
-pub value_is : (w : List ℕ) → all_ascii_digits w ≡ true → fold (λ n b. min (min (n * 10) 18446744073709551615 + (b - 48)) 18446744073709551615) 0 w ≡ min (digits_value 10 w) 18446744073709551615
-value_is w h = capped_from w 0 0 refl h
+capped_step : (top v d n m : ℕ) → n ≡ min v top → m ≡ min (min (n * 10) top + d) top → m ≡ min (v * 10 + d) top
+capped_step top v d n m en em = omega arith
+
+pub digit_more : (w : List ℕ) (i n m : ℕ) → i < length w → is_ascii_digit (get_or w i 0) ≡ true → digit_value (get_or w i 0) < 10 → NumeralSoFar w i n → m ≡ min (min (n * 10) 18446744073709551615 + (get_or w i 0 - 48)) 18446744073709551615 → NumeralSoFar w (i + 1) m
+digit_more w i n m lt d ten h em =
+    let v : digit_value (get_or w i 0) ≡ get_or w i 0 - 48 = omega (arith, digit_value_digit (get_or w i 0) (digit_from_value (get_or w i 0) ten)) in
+    record {
+      digits = all_digits_is (take (i + 1) w) ∙ list_all_more is_ascii_digit w i 0 lt ∙ and_from _ _ (sym (all_digits_is (take i w)) ∙ h.digits) d;
+      value_is = capped_step 18446744073709551615 (digits_value 10 (take i w)) (get_or w i 0 - 48) n m h.value_is em ∙ ap (λ x. min x 18446744073709551615) (sym (digits_value_more 10 w i lt ∙ ap (λ b. digits_value 10 (take i w) * 10 + b) v));
+    }
+
+pub other_byte : (w : List ℕ) (i : ℕ) → i < length w → is_ascii_digit (get_or w i 0) ≡ false → Numeral w → ⊥
+other_byte w i lt d h = both_ways _ (all_digits_is w ∙ list_all_at is_ascii_digit w i 0 lt d) h.digits
 
 -- a numeral of at most ten digits is a number word, and its value is below 10 ^ 10
 number_of : (w : List ℕ) → length w ≤ 10 → Numeral w → is_number w ≡ true
