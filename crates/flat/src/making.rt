@@ -17,7 +17,7 @@ impl FlatBoard {
         let count = board.count();
         let mut rows = Vec::with_capacity(heap, count as usize)?;
         let mut steps = Vec::new(heap);
-        // kept: a loop, since each row is pushed with `?`, and so are the moves below.
+        // kept: a loop. With `map` and `try_collect`, which were tried, what `push_moves` requires is not proved in the closure, which changes `steps`.
         for p in 0..count {
             let row = push_moves(board, p, &mut steps)?;
             rows.push(row)?;
@@ -40,6 +40,7 @@ fn push_moves<B: Board>(board: &B, p: u32, steps: &mut Vec<Step>) -> Result<Flat
 {
     let first = steps.len() as u32;
     let degree = board.degree(p).unwrap();
+    // kept: a loop. With `extend` and `map`, which were tried, the closure does not know that `k` is below `degree`; with `filter_map` it is not proved what was appended.
     for k in 0..degree {
         steps.push(board.step(p, k).unwrap())?;
     }

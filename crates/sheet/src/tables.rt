@@ -27,7 +27,7 @@ pub(crate) fn write_positions(table: &mut [PositionEntry], positions: &[Position
     requires { (length positions.now ≤ length table.old) × ((length positions.now ≤ 4096) × ((length moves.now ≤ 4096) × (NeverFalling 0 moves.now))) }
     ensures { table.new ≡ entries_from moves.now 0 positions.now ++ drop (length positions.now) table.old }
 {
-    // kept: the table is written by index, since a proof knows no element after `iter_mut`.
+    // kept: the table is written by index. After a loop over `table.iter_mut().zip(positions)`, which was tried, no fact says what the table holds.
     let mut first = 0;
     for (p, position) in positions.iter().enumerate() {
         let degree = run_len(&moves[first..], p as u32);

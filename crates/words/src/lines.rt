@@ -31,7 +31,7 @@ fn word_end(line: &[u8], from: usize) -> usize
 }
 
 // Where a word begins, by its place from 1; the line's end where it has fewer words.
-// kept: a `split` gives the word's bytes, but not its column.
+// kept: a loop. `split` gives no column; `enumerate`, `filter`, `map` and `nth` on the spaces was tried: a function more, a proof file, and twice the lemmas.
 #[tactic(auto, using(crate::proofs::Cutting::pass_one, crate::proofs::Cutting::first_passed, crate::proofs::Cutting::none_left))]
 fn word_start(line: &[u8], place: usize) -> usize
     ensures { WordFrom line.now (place - 1) result }
