@@ -1,5 +1,6 @@
 // What a solver keeps.
 
+// kept: a cost as a pair of numbers, here and above, since a cell is a plain record that each kind of cost reads.
 /// A position's cell: its cost as two numbers or none, its chosen move or none, and the first round in which this cost stood.
 #[derive(Clone, Copy, Debug, Default, PartialEq)]
 pub struct Cell {

@@ -15,6 +15,8 @@ use sheet_format::LineFault;
 use std::ops::Range;
 use words::{Line, Mark, Word};
 
+// kept: a line and a place as parameters, here and below, since a word is asked for by them and each line does so in one order.
+
 // A number of a range.
 fn number_in(line: &Line<'_>, place: usize, range: Range<u64>) -> Result<u32, LineFault>
     requires { range.end ≤ 4294967296 }

@@ -19,7 +19,7 @@ fn front<T: Copy>(heap: Global, table: &[T], n: usize) -> Result<Vec<T>, AllocEr
 }
 
 // Reads a sheet into lists that have room for the largest, and keeps what it holds.
-// kept: the lists are lent to a function of their own, since a proof knows nothing of a `Vec` after `as_mut_slice`.
+// kept: the lists are lent to a function of their own, and their fronts collected; `truncate` on each after `as_mut_slice` was tried, and the proof did not close.
 fn read_into(
     heap: Global,
     sheet: &[u8],

@@ -35,6 +35,7 @@ fn number(word: &[u8]) -> Option<u64>
     numeral(word)
 }
 
+// kept: functions and no TryFrom or From, here and in `Word::of`, since a word that is no mark is no error, and a word keeps the bytes that it is.
 // The mark that a word is.
 fn mark(word: &[u8]) -> Option<Mark>
     ensures { MatchOption result ((m : Mark) → word.now ≢ mark_word m) (λ m. word.now ≡ mark_word m) }
