@@ -26,6 +26,7 @@ fn judge<C: Cost>(value: Option<C>, budget: C) -> Verdict
     }
 }
 
+// kept: when lists are refused stands in each contract in the words of its own lists, here, in the rounds and in a session, since a shorter name would say less to a reader.
 /// Solves the board for the kind of cost `C`, with a budget that is read as a move's charge.
 /// The final cells are written to both lists, cells past the count keep what they held, and the plan keeps the first list.
 /// A list that is shorter than the board is refused: nothing is written, and the first list is handed back.
