@@ -1,6 +1,5 @@
 -- The best of the values so far, with the lowest place that has it, is the best of the row and its lowest move.
 use Rattle.std.proofs.Common.{◌≡◌, ℕ, suc, ◌+◌, ◌<◌, ◌≤◌, Bool, true, false, not, List, [], ◌∷◌, map, length, get_or, Some, None, Option, sym, refl, ap, ◌∙◌, subst, ⊎_elim, not-suc-le-zero, arith}
-use Rattle.std.proofs.lemmas.List.{nil_from_length}
 use Rattle.std.proofs.lemmas.Bool.{both_ways, cases_lt, cases_order, cond_both}
 use Rattle.board.specs.Table.{Row, move_at, absent_move}
 use Rattle.board.specs.declared.parts.Step.{Step}
@@ -129,7 +128,3 @@ module _ {C : Type 0} (k : Kind C) (laws : CostLaws k) where
   none_best : (turn : Turn) → ◌≡◌ {A = Option C} None (best k turn [])
   none_best Arm = refl
   none_best Person = refl
-
-  -- a row without moves
-  pub leads_none : (w : ℕ → Option C) (r : Row) → length r.moves ≡ 0 → Leads k w r (record { value = None; choice = None })
-  leads_none w r e = let empty = nil_from_length r.moves e in record { value = rw empty (none_best r.turn); choice = rw empty }

@@ -2,7 +2,7 @@
 use Rattle.std.proofs.Common.{◌≡◌, ℕ, ◌<◌, ◌≤◌, List, map, length, get_or, take, drop, Some, None, Option, sym, refl, ap, ◌∙◌, subst, ⊎_elim, arith}
 use mathlib.Core.Path.{fun_ext}
 use Rattle.std.proofs.lemmas.List.FromFn.{get_or-map-range_with_len, length-map-range_with_len}
-use Rattle.std.proofs.lemmas.List.{get_or_append_left, get_or-take, get_or_past, length-append, length-take}
+use Rattle.std.proofs.lemmas.List.{get_or_append_left, get_or-take, get_or_past, length-take}
 use Rattle.std.proofs.lemmas.Bool.{cases_lt}
 use Rattle.std.specs.List.{range_with_len}
 use Rattle.std.specs.Option.{option_map}
@@ -12,8 +12,7 @@ use Rattle.board.specs.declared.parts.Step.{Step}
 use Rattle.cost.specs.Kind.{Kind}
 use Rattle.cost.specs.Laws.{CostLaws}
 use Rattle.game.specs.Plays.{degree, move_of}
-use Rattle.game.specs.Rounds.{charge_of, value_through, round}
-use Rattle.game.specs.Values.{value_add}
+use Rattle.game.specs.Rounds.{round}
 use Rattle.game.proofs.Rounds.{outside}
 use Rattle.cells.specs.Cells.{empty_cell, final_cell, solved_cells}
 use Rattle.cells.specs.Written.{round_cell, Holds, values_of}
@@ -53,24 +52,8 @@ module _ {C : Type 0} (k : Kind C) (t : Table) (ranges : InRange t) (p m : ℕ) 
   pub lands : s.target < length t.rows
   lands = subst (λ (x : Step). x.target < length t.rows) (sym is) ((ranges.each_row p inside).each_move m there).lands
 
-  -- the value through a move, read from the cell of its target
-  pub read_through : (cells : List Cell) (v : Option C) → v ≡ value_add k (charge_of k s) (option_map k.read (get_or cells s.target empty_cell).cost)
-      → v ≡ value_through k (values_of k (length t.rows) cells) (move_of t p m)
-  read_through cells v e =
-      e ∙ ap (λ (c : Cell). value_add k (charge_of k s) (option_map k.read c.cost)) (sym (get_or-take (length t.rows) cells s.target empty_cell lands))
-      ∙ ap (value_through k (values_of k (length t.rows) cells)) is
-
 -- the list that solving leaves
 module _ {C : Type 0} (k : Kind C) (laws : CostLaws k) (t : Table) (n : ℕ) (old cells : List Cell) (is : cells ≡ solved_cells k t n old) where
-  pub solved_long : length t.rows ≤ length cells
-  solved_long =
-      omega (
-        arith,
-        ap length is,
-        length-append (map (final_cell k t n) (range_with_len 0 (length t.rows))) (drop (length t.rows) old),
-        length-map-range_with_len (final_cell k t n) 0 (length t.rows),
-      )
-
   pub solved_cell : (p : ℕ) → p < length t.rows → get_or cells p empty_cell ≡ final_cell k t n p
   solved_cell p h =
       ap (λ xs. get_or xs p empty_cell) is

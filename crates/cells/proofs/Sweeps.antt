@@ -1,9 +1,9 @@
 -- Writing the cells of a round one after another, and what this shows of the round.
-use Rattle.std.proofs.Common.{◌≡◌, ℕ, suc, ◌+◌, ◌<◌, ◌≤◌, Bool, true, false, ◌||◌, nat_lt, List, [], ◌∷◌, ◌++◌, map, length, get_or, take, drop, set, sym, refl, ap, ◌∙◌, subst, ⊎_elim, not-suc-le-zero, arith}
+use Rattle.std.proofs.Common.{◌≡◌, ℕ, suc, ◌+◌, ◌<◌, ◌≤◌, Bool, true, false, ◌||◌, nat_lt, List, [], ◌∷◌, ◌++◌, map, length, get_or, take, drop, set, sym, refl, ap, ◌∙◌, subst, ⊎_elim, arith}
 use mathlib.Core.Path.{fun_ext}
 use Rattle.std.proofs.lemmas.List.FromFn.{length-map-range_with_len, map-range_with_len_more}
 use Rattle.std.proofs.lemmas.List.{append_assoc, drop_more, set_at, take_at, drop_at}
-use Rattle.std.proofs.lemmas.Bool.{cases_Bool, cases_lt, false≢true, true≢false, ltb-true, ltb-false}
+use Rattle.std.proofs.lemmas.Bool.{cases_Bool, cases_lt, true≢false, ltb-true, ltb-false}
 use Rattle.std.specs.List.{range_with_len}
 use Rattle.board.specs.Table.{Table}
 use Rattle.cost.specs.Kind.{Kind}
@@ -47,9 +47,6 @@ pub record Swept {C : Type 0} (k : Kind C) (t : Table) (n p : ℕ) (changed : Bo
   pub other : changed ≡ true → (q : ℕ) × (n < first_round k t (suc n) q)
 
 module _ {C : Type 0} (k : Kind C) (laws : CostLaws k) (t : Table) (n : ℕ) where
-  pub swept_none : Swept k t n 0 false
-  swept_none = record { same = λ e q h. absurd (not-suc-le-zero h); other = λ e. absurd (false≢true e) }
-
   swept_changed : (p : ℕ) → n < first_round k t (suc n) p → Swept k t n (p + 1) true
   swept_changed p h = record { same = λ e. absurd (true≢false e); other = λ e. (p, h) }
 

@@ -10,7 +10,7 @@ use Rattle.board.specs.Questions.{bound, turn_at, label_at, rests_at, degree_at,
 use Rattle.board.specs.Ranges.{InRange}
 use Rattle.board.specs.Table.{Row, Table, row_at, move_at, absent_row, absent_move}
 use Rattle.flat.specs.declared.parts.FlatRow.{FlatRow}
-use Rattle.flat.specs.Flat.{Among, Inside, absent_flat, row_of, flat_table}
+use Rattle.flat.specs.Flat.{Among, row_of}
 
 -- an answer that was unwrapped
 pub unwrapped : {X : Type 0} (o a : Option X) (r x : X) → o ≡ Some r → o ≡ a → a ≡ Some x → r ≡ x
@@ -89,12 +89,3 @@ copied_next t p rs rs' ss ss' r fair h so_far er es row here =
       among = All-push (Among ss') rs r (All-weaker (Among ss) (Among ss') (λ x l. omega (arith, l, long)) rs so_far.among) here;
       few = omega (arith, long, so_far.few, (fair.each_row p h).degree_top);
     })
-
--- where all rows are copied, the lists hold the table
-pub all_copied : (t : Table) (p start : ℕ) (rs : List FlatRow) (ss : List Step) → length t.rows ≤ p → start ≡ t.start → Copied t p rs ss → flat_table rs ss start ≡ t
-all_copied t p start rs ss h e so_far =
-    let rows : map (row_of ss) rs ≡ t.rows = so_far.same ∙ take_all p t.rows h in
-    λ i. record { start = e i; rows = rows i }
-
-pub copied_inside : (t : Table) (p : ℕ) (rs : List FlatRow) (ss : List Step) → Copied t p rs ss → Inside rs ss
-copied_inside t p rs ss so_far i h = so_far.among i absent_flat h

@@ -1,16 +1,13 @@
 -- The listing of a plan is that of the rounds.
-use Rattle.std.proofs.Common.{◌≡◌, ℕ, zero, suc, ◌<◌, List, ◌++◌, length, refl, ap, ◌∙◌, append_assoc, arith}
+use Rattle.std.proofs.Common.{◌≡◌, ℕ, zero, suc, ◌<◌, List, ◌++◌, length, refl, ap, ◌∙◌, arith}
 use Rattle.std.proofs.lemmas.List.{get_or-take}
 use Rattle.board.specs.Ranges.{InRange}
 use Rattle.board.specs.Table.{Table}
 use Rattle.cells.proofs.Reading.{solved_cell}
 use Rattle.cells.specs.Cells.{empty_cell, final_cell}
 use Rattle.cells.specs.declared.parts.Cell.{Cell}
-use Rattle.cost.specs.CareKind.{care_kind}
-use Rattle.cost.specs.EnergyKind.{energy_kind}
 use Rattle.cost.specs.Kind.{Kind}
 use Rattle.cost.specs.Laws.{CostLaws}
-use Rattle.cost.specs.PeakKind.{peak_kind}
 use Rattle.entries.specs.declared.Start.{Start}
 use Rattle.game.proofs.Promised.{promised}
 use Rattle.game.specs.Rounds.{round}
@@ -20,8 +17,7 @@ use Rattle.solve.specs.Solves.{Solves}
 use Rattle.solve.specs.Verdicts.{verdict_of}
 use Rattle.solve.specs.declared.plan.Plan.{Plan}
 use Rattle.wording.specs.declared.kinds.CostKind.{CostKind}
-use Rattle.wording.specs.declared.kinds.CostKind.TheVariants.{Energy, Peak, Care}
-use Rattle.report.specs.Reports.{budget_of, kind_listing, ListsKind, AppendsKind, AppendsKinds}
+use Rattle.report.specs.Reports.{budget_of, kind_listing, ListsKind, AppendsKind}
 
 -- lines of like cells
 same_lines : (kind : CostKind) (t : Table) (f g : ℕ → Cell) (n : ℕ) → ((p : ℕ) → p < n → f p ≡ g p) → position_lines kind t f n ≡ position_lines kind t g n
@@ -51,11 +47,3 @@ module _ {C : Type 0} (k : Kind C) (laws : CostLaws k) (t : Table) (ranges : InR
 
   pub appends : (a b : List ℕ) → b ≡ a ++ listing named t p.count p.start p.rounds p.verdict (plan_cell p.count p.cells.now) → AppendsKind named k t s a b
   appends a b e = (kind_listing named k t s p.rounds, plan_lists, e ∙ ap (λ x. a ++ x) plan_listing)
-
--- three listings, one after another
-pub appends_three : (t : Table) (s : Start) (a b d e : List ℕ) → AppendsKind Energy energy_kind t s a b → AppendsKind Peak peak_kind t s b d → AppendsKind Care care_kind t s d e → AppendsKinds t s a e
-appends_three t s a b d e x y z = (
-  x.0 ++ (y.0 ++ z.0),
-  record { energy = x.0; peak = y.0; care = z.0; whole = refl; energy_lists = x.1; peak_lists = y.1; care_lists = z.1 },
-  z.2 ∙ ap (λ l. l ++ z.0) (y.2 ∙ ap (λ l. l ++ y.0) x.2) ∙ append_assoc (a ++ x.0) y.0 z.0 ∙ append_assoc a x.0 (y.0 ++ z.0),
-)

@@ -1,5 +1,5 @@
 -- Where the moves of each position stand in a list of moves that never falls.
-use Rattle.std.proofs.Common.{◌≡◌, ℕ, suc, ◌+◌, ◌-◌, ◌<◌, ◌≤◌, eqb, List, [], ◌∷◌, ◌++◌, length, get_or, take, drop, set, sym, refl, ap, ◌∙◌, ap₂, append_assoc, arith}
+use Rattle.std.proofs.Common.{◌≡◌, ℕ, suc, ◌+◌, ◌-◌, ◌<◌, ◌≤◌, eqb, List, [], ◌∷◌, ◌++◌, length, get_or, take, drop, set, sym, refl, ap, ◌∙◌, append_assoc, arith}
 use Rattle.std.specs.List.{prefix_len}
 use Rattle.std.proofs.lemmas.List.{take_more, drop_more, take_all, set_at, length-take-le, length-drop}
 use Rattle.std.proofs.lemmas.Bool.Decides.{nat_tests}
@@ -56,9 +56,6 @@ module _ (ms : List Move) (xs : List Position) (old : List PositionEntry) where
       let place : 0 + length (take p xs) ≡ p = omega (arith, length-take-le p xs (omega arith)) in
       let more : entries_from ms 0 (take (p + 1) xs) ≡ entries_from ms 0 (take p xs) ++ e ∷ [] = ap (entries_from ms 0) (take_more xs p x lt) ∙ entries_push ms 0 (take p xs) (get_or xs p x) ∙ ap (λ q. entries_from ms 0 (take p xs) ++ entry_at ms q (get_or xs p x) ∷ []) place ∙ ap (λ y. entries_from ms 0 (take p xs) ++ y ∷ []) (sym is) in
       ap (λ l. set (entries_from ms 0 (take p xs) ++ l) p e) (drop_more old p e room) ∙ set_at (entries_from ms 0 (take p xs)) (get_or old p e) (drop (p + 1) old) e p front ∙ sym (append_assoc (entries_from ms 0 (take p xs)) (e ∷ []) (drop (p + 1) old)) ∙ ap (λ l. l ++ drop (p + 1) old) (sym more)
-
-  pub all_written : (p : ℕ) → p ≡ length xs → written p ≡ entries_from ms 0 xs ++ drop (length xs) old
-  all_written p is = ap₂ (λ l k. entries_from ms 0 l ++ drop k old) (take_all p xs (omega arith)) is
 
 -- the run from where the moves of p begin
 pub run_of : (p : ℕ) (ms : List Move) (first f : ℕ) → first ≡ count_before p ms → NeverFalling f ms → prefix_len (λ m. eqb m.from p) (take (length ms - first) (drop first ms)) ≡ count_from p ms

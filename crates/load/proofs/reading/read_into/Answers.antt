@@ -1,13 +1,6 @@
-use Rattle.std.proofs.Common.{length, ap, sym, ◌∙◌, arith}
-use Rattle.std.proofs.lemmas.Result.{err_from_is_err_and}
-use Rattle.sheet_format.specs.Read.{read_sheet}
-use Rattle.load.proofs.Sheets.{taken, outlined_err, tables_whole}
+use Rattle.std.proofs.Common.{length, ap, ◌∙◌, arith}
+use Rattle.load.proofs.Sheets.{taken, tables_whole}
 use Rattle.load.proofs.reading.read_into.Goals as goal
-
-pub returns-in_err-outline : goal.returns-in_err-outline
-returns-in_err-outline c =
-    let p = err_from_is_err_and c.from_residual.result c.from_residual.ensures.1 in
-    rw (p.1, p.2) (ap (λ z. read_sheet z c.args.sheet.now) (sym c.requires) ∙ outlined_err _ _ c.in_err-outline.ensures.answer)
 
 pub invariant_of-result : goal.invariant_of-result
 invariant_of-result c =

@@ -20,16 +20,6 @@ returns-then-not-next_cells-clause-two g c =
     let t = g.B.Board.meaning c.args.board.now in
     written g.C.Cost.kind g.met.C.Cost.laws t c.loop-two.n (c.next_cells.ensures.changed.same c.if-not-next_cells.true) c.args.two.now c.loop-two.two c.next_cells.new.to c.loop-two.invariant.rest_two c.next_cells.ensures.cells
 
-pub next_cells-requires-in-loop-two : goal.next_cells-requires-in-loop-two
-next_cells-requires-in-loop-two g c =
-    let t = g.B.Board.meaning c.args.board.now in
-    let k = g.C.Cost.kind in
-    let n = c.loop-two.n in
-    let changed = c.next_cells.ensures.changed.other c.if-not-next_cells.false in (
-      omega (arith, changed_few k g.met.C.Cost.laws t n changed, (g.B.Board.ranges c.args.board.now).few),
-      (omega arith, over_next k t n (n + 1) c.loop-two.two c.next_cells.new.to (omega arith) c.next_cells.ensures.cells),
-    )
-
 pub returns-then-not-next_cells-2-clause-one : goal.returns-then-not-next_cells-2-clause-one
 returns-then-not-next_cells-2-clause-one g c =
     let t = g.B.Board.meaning c.args.board.now in

@@ -2,7 +2,7 @@ use Rattle.std.proofs.Common.{◌≡◌, ◌-◌, drop, length, sym, refl, ◌�
 use Rattle.std.proofs.lemmas.List.{length-drop, length-take-le}
 use Rattle.sheet_format.specs.Lines.{count_from, absent_position}
 use Rattle.sheet_format.proofs.Sorted.{none_before}
-use Rattle.sheet.proofs.Spans.{before_next, write_next, all_written, run_of}
+use Rattle.sheet.proofs.Spans.{before_next, write_next, run_of}
 use Rattle.sheet.proofs.tables.write_positions.Goals as goal
 
 pub loop-p-init : goal.loop-p-init
@@ -18,7 +18,3 @@ loop-p-preserved c =
       omega (arith, degree, first, before_next p ms),
       rw c.loop-p.invariant.2 (write_next ms c.args.positions.now c.args.table.now p _ absent_position c.loop-p-test.true (omega arith) (search rules)),
     )
-
-pub returns : goal.returns
-returns c =
-    c.loop-p.invariant.2 ∙ all_written c.args.moves.now c.args.positions.now c.args.table.now c.loop-p.p (omega arith)

@@ -6,15 +6,9 @@ use Rattle.game.specs.Rounds.{value_through}
 use Rattle.cells.specs.Leads.{turn_leq}
 use Rattle.cells.specs.Written.{values_of}
 use Rattle.cells.specs.declared.parts.Lead.{Lead}
-use Rattle.cells.proofs.Leading.{Leading, turn_order, leads_first, leads_better, leads_kept, leads_all, leads_none}
+use Rattle.cells.proofs.Leading.{Leading, turn_order, leads_first, leads_better, leads_kept, leads_all}
 use Rattle.rounds.proofs.position.Round.best_move.Goals.{then-better, else-better}
 use Rattle.rounds.proofs.position.Round.best_move.Goals as goal
-
-pub returns-then-degree-eq0 : goal.returns-then-degree-eq0
-returns-then-degree-eq0 g c =
-    let t = g.B.Board.meaning c.args.self.now.board.now in
-    let k = g.C.Cost.kind in
-    leads_none k g.met.C.Cost.laws (values_of k (length t.rows) c.args.self.now.cells.now) (row_at t c.args.p) (omega (arith, c.degree_at-degree.ensures))
 
 pub loop-m-init : goal.loop-m-init
 loop-m-init g c =
