@@ -1,4 +1,5 @@
 // Lines of the account.
+use crate::responding::Summary;
 use board::{Board, Step};
 use load::Tables;
 use std::io;
@@ -20,8 +21,8 @@ pub(crate) fn write_tables<W: Write>(out: &mut W, tables: &Tables) -> io::Result
 }
 
 // The count and the start of the joined board.
-pub(crate) fn write_joined<W: Write, B: Board>(out: &mut W, board: &B) -> io::Result<()> {
-    writeln!(out, "joined {} {}", board.count(), board.start())
+pub(crate) fn write_joined<W: Write>(out: &mut W, joined: Summary) -> io::Result<()> {
+    writeln!(out, "joined {} {}", joined.count, joined.start)
 }
 
 // A position: its number, turn, resting mark and label, then each move as target, bruise and energy.

@@ -45,11 +45,11 @@ module _ {C : Type 0} (k : Kind C) (laws : CostLaws k) (t : Table) where
   choice_of_person n p m = rw (m.awake, m.whose)
 
   -- the cells of round 0
-  first_at_rest : (p : ℕ) (z : C) (x : ℕ × ℕ) → (row_at t p).rests ≡ true → z ≡ k.zero → x ≡ k.numbers z → ◌≡◌ {A = Cell} (record { cost = Some x; choice = None; round = 0 }) (round_cell k t 0 p)
+  pub first_at_rest : (p : ℕ) (z : C) (x : ℕ × ℕ) → (row_at t p).rests ≡ true → z ≡ k.zero → x ≡ k.numbers z → ◌≡◌ {A = Cell} (record { cost = Some x; choice = None; round = 0 }) (round_cell k t 0 p)
   unfolding round round_choice first_round
   first_at_rest p z x rests nothing is = rw rests (same_cell (ap Some (is ∙ ap k.numbers nothing)) refl refl)
 
-  first_awake : (p : ℕ) → (row_at t p).rests ≡ false → ◌≡◌ {A = Cell} (record { cost = None; choice = None; round = 0 }) (round_cell k t 0 p)
+  pub first_awake : (p : ℕ) → (row_at t p).rests ≡ false → ◌≡◌ {A = Cell} (record { cost = None; choice = None; round = 0 }) (round_cell k t 0 p)
   unfolding round round_choice first_round
   first_awake p awake = rw awake refl
 

@@ -2,7 +2,7 @@
 use Rattle.std.proofs.Common.{◌≡◌, ℕ, ◌<◌, ◌≤◌, List, map, length, get_or, take, drop, Some, None, Option, sym, refl, ap, ◌∙◌, subst, ⊎_elim, arith}
 use mathlib.Core.Path.{fun_ext}
 use Rattle.std.proofs.lemmas.List.FromFn.{get_or-map-range_with_len, length-map-range_with_len}
-use Rattle.std.proofs.lemmas.List.{get_or_append_left, get_or-take, get_or_past, length-take}
+use Rattle.std.proofs.lemmas.List.{get_or_append_left, get_or-take, get_or_past, length-append, length-take}
 use Rattle.std.proofs.lemmas.Bool.{cases_lt}
 use Rattle.std.specs.List.{range_with_len}
 use Rattle.std.specs.Option.{option_map}
@@ -54,6 +54,15 @@ module _ {C : Type 0} (k : Kind C) (t : Table) (ranges : InRange t) (p m : ℕ) 
 
 -- the list that solving leaves
 module _ {C : Type 0} (k : Kind C) (laws : CostLaws k) (t : Table) (n : ℕ) (old cells : List Cell) (is : cells ≡ solved_cells k t n old) where
+  pub solved_long : length t.rows ≤ length cells
+  solved_long =
+      omega (
+        arith,
+        ap length is,
+        length-append (map (final_cell k t n) (range_with_len 0 (length t.rows))) (drop (length t.rows) old),
+        length-map-range_with_len (final_cell k t n) 0 (length t.rows),
+      )
+
   pub solved_cell : (p : ℕ) → p < length t.rows → get_or cells p empty_cell ≡ final_cell k t n p
   solved_cell p h =
       ap (λ xs. get_or xs p empty_cell) is

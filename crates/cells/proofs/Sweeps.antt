@@ -47,10 +47,10 @@ pub record Swept {C : Type 0} (k : Kind C) (t : Table) (n p : ℕ) (changed : Bo
   pub other : changed ≡ true → (q : ℕ) × (n < first_round k t (suc n) q)
 
 module _ {C : Type 0} (k : Kind C) (laws : CostLaws k) (t : Table) (n : ℕ) where
-  swept_changed : (p : ℕ) → n < first_round k t (suc n) p → Swept k t n (p + 1) true
+  pub swept_changed : (p : ℕ) → n < first_round k t (suc n) p → Swept k t n (p + 1) true
   swept_changed p h = record { same = λ e. absurd (true≢false e); other = λ e. (p, h) }
 
-  swept_same : (p : ℕ) (changed : Bool) → Swept k t n p changed → first_round k t (suc n) p ≤ n → Swept k t n (p + 1) changed
+  pub swept_same : (p : ℕ) (changed : Bool) → Swept k t n p changed → first_round k t (suc n) p ≤ n → Swept k t n (p + 1) changed
   swept_same p changed s h = record {
     same = λ e q l. ⊎_elim (λ (b : q < p). s.same e q b) (λ (b : p ≤ q). let i : p ≡ q = omega arith in subst (λ (x : ℕ). first_round k t (suc n) x ≤ n) i h) (cases_lt q p);
     other = s.other;

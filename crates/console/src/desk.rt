@@ -1,8 +1,8 @@
 // A desk of lines.
-ghost use Rattle.std.specs.Prelude.{◌≡◌, [], ◌∷◌, ◌++◌, IfOk, IfErr};
+ghost use Rattle.std.specs.Prelude.{◌≡◌, [], ◌∷◌, ◌++◌, Decides, IfOk, IfErr};
 ghost use Rattle.std.specs.Option.{option_to_list, option_flatten};
 ghost use Rattle.std.specs.Result.{result_ok};
-ghost use Rattle.console.specs.declared.desk.State.TheVariants.{Failed};
+ghost use Rattle.console.specs.States.{HasFailed};
 
 use dialog::{Command, EndText, ShownText, command};
 use game::Event;
@@ -15,13 +15,36 @@ use std::io::{BufRead, Write};
 use wording::CostKind;
 
 // What a console has come to.
-#[derive(Clone, Copy, PartialEq)]
+#[derive(Clone, Copy)]
 enum State {
     Open,
     // `end` was read
     Ended,
-    // reading, printing or keeping has failed
-    Failed,
+    // reading, printing or keeping has failed, after `end` was read or before
+    Failed { ended: bool },
+}
+
+impl State {
+    // Whether `end` was read.
+    fn has_ended(self) -> bool {
+        matches!(self, State::Ended | State::Failed { ended: true })
+    }
+
+    // Whether something has failed.
+    fn has_failed(self) -> bool
+        ensures { Decides result (HasFailed self) }
+    {
+        matches!(self, State::Failed { .. })
+    }
+
+    // The state after a failure.
+    fn failed(self) -> State
+        ensures { HasFailed result }
+    {
+        State::Failed {
+            ended: self.has_ended(),
+        }
+    }
 }
 
 /// Lines in, lines out. It keeps the events that it has told, and what it was shown.
@@ -71,10 +94,10 @@ impl<R: BufRead + Drop, W: Write + Drop> Console<R, W> {
         ensures told { self.new.told ≡ self.old.told }
         ensures log { self.new.log ≡ self.old.log }
         ensures value { result ≡ result_ok outcome }
-        ensures failed { IfErr outcome (λ _. self.new.state ≡ Failed) }
+        ensures failed { IfErr outcome (λ _. HasFailed self.new.state) }
     {
         if outcome.is_err() {
-            self.state = State::Failed;
+            self.state = self.state.failed();
         }
         outcome.ok()
     }
@@ -126,14 +149,14 @@ impl<R: BufRead + Drop, W: Write + Drop> Console<R, W> {
     pub fn finish(&mut self, ending: Ending) -> io::Result<()> {
         let kind = self.kind;
         match ending {
-            Ending::Ended(progress) if self.state == State::Ended => {
+            Ending::Ended(progress) if self.state.has_ended() => {
                 self.print(EndText { kind, progress })
             }
             Ending::Ended(_) => (),
             Ending::NotBegun(refusal) => self.refuse(refusal),
-            Ending::Cut => self.state = State::Failed,
+            Ending::Cut => self.state = self.state.failed(),
         }
-        if self.state == State::Failed {
+        if self.state.has_failed() {
             return Err(io::Error::other("reading, printing or memory failed"));
         }
         Ok(())
@@ -153,10 +176,10 @@ impl<R: BufRead + Drop, W: Write + Drop> Desk for Console<R, W> {
     // nothing tells that the input is at its end
     ghost closed = { λ _. Unit {0} };
 
-    ghost broken = { λ c. c.state ≡ Failed };
+    ghost broken = { λ c. HasFailed c.state };
 
     fn next(&mut self) -> Option<Event> {
-        if matches!(self.state, State::Failed) {
+        if self.state.has_failed() {
             return None;
         }
         let read = self.read();
@@ -164,10 +187,12 @@ impl<R: BufRead + Drop, W: Write + Drop> Desk for Console<R, W> {
     }
 
     fn show(&mut self, shown: Shown) -> Result<(), Cut> {
-        if matches!(self.state, State::Failed) {
-            return Err(Cut);
-        }
         let outcome = self.keep(shown);
-        self.noted(outcome).ok_or(Cut)
+        let _ = self.noted(outcome);
+        if self.state.has_failed() {
+            Err(Cut)
+        } else {
+            Ok(())
+        }
     }
 }

@@ -1,22 +1,22 @@
 -- The moves before a line, in the order of the sheet and the last first.
-use Rattle.std.proofs.Common.{◌≡◌, ℕ, cond, eqb, List, [], ◌∷◌, reverse, length, Ok, Err, Result, sym, refl, ap, ◌∙◌, arith}
+use Rattle.std.proofs.Common.{◌≡◌, ℕ, Bool, eqb, List, [], ◌∷◌, reverse, length, filter, Ok, Err, Result, sym, refl, ap, ◌∙◌, arith, length-append}
 use mathlib.Core.List.{reverse-append}
 use Rattle.std.specs.List.{count_by}
-use Rattle.std.proofs.lemmas.List.Sums.{length-filter, sum_by-append, sum_by-cons}
+use Rattle.std.proofs.lemmas.List.Elements.{filter-append}
+use Rattle.std.proofs.lemmas.List.Sums.{length-filter}
 use Rattle.entries.specs.declared.Move.{Move}
 use Rattle.entries.specs.declared.Position.{Position}
 use Rattle.sheet_format.specs.declared.LineFault.{LineFault}
 use Rattle.sheet_format.specs.Fields.{on_ok, read_fields}
 use Rattle.sheet_format.specs.Lines.{count_from, move_fields, move_of, move_checks, move_line}
 
-count_reverse : (p : ℕ) (ms : List Move) → count_by (λ m. eqb m.from p) (reverse ms) ≡ count_by (λ m. eqb m.from p) ms
+pub count_reverse : {X : Type 0} (p : X → Bool) (xs : List X) → length (filter p (reverse xs)) ≡ length (filter p xs)
 count_reverse p [] = refl
-count_reverse p (m ∷ ms) =
-    let f : Move → ℕ = λ m. cond (eqb m.from p) 1 0 in
-    ap (count_by (λ m. eqb m.from p)) (reverse-append (m ∷ []) ms) ∙ omega (arith, sum_by-append f (reverse ms) (m ∷ []), sum_by-cons f m ms, sum_by-cons f m [], count_reverse p ms)
+count_reverse p (x ∷ xs) =
+    ap (λ l. length (filter p l)) (reverse-append (x ∷ []) xs) ∙ ap length (filter-append p (reverse xs) (x ∷ [])) ∙ length-append (filter p (reverse xs)) (filter p (x ∷ [])) ∙ omega (arith, count_reverse p xs, ap length (filter-append p (x ∷ []) xs), length-append (filter p (x ∷ [])) (filter p xs))
 
 pub count_from_reverse : (p : ℕ) (ms : List Move) → count_by (λ m. eqb m.from p) ms ≡ count_from p (reverse ms)
-count_from_reverse p ms = sym (length-filter (λ m. eqb m.from p) (reverse ms) ∙ count_reverse p ms)
+count_from_reverse p ms = sym (count_reverse (λ (m : Move). eqb m.from p) ms ∙ length-filter (λ (m : Move). eqb m.from p) ms)
 
 -- a move line, read and then checked
 module _ (ps : List Position) (seen : List Move) (ws : List (List ℕ)) where

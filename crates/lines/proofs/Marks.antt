@@ -14,14 +14,14 @@ use Rattle.words.specs.declared.parts.Word.{Word}
 use Rattle.words.specs.declared.parts.Word.TheVariants as variants
 use denote.Ref.{Bor}
 use Rattle.words.specs.Kinds.{mark_word, Says}
-use Rattle.lines.specs.Words.{on_value, first_of_two}
+use Rattle.lines.specs.Words.{on_value}
 
 not_first : (w v : List ℕ) (vs : List (List ℕ)) → (w ≡ v → ⊥) → place_among w (v ∷ vs) ≡ one_further (place_among w vs)
 not_first w v vs h = cond-false (bytes_eq w v) (Some 0) _ (false_from_ne_true (bytes_eq w v) (λ t. h ((bytes_eq-Decides w v).0 t)))
 
-pub unmarked : (place : ℕ) (w u v : List ℕ) → (w ≡ u → ⊥) → (w ≡ v → ⊥) → Err (line_fault UnknownMark place) ≡ on_value first_of_two (at_word place (read_field (mark u v) w))
-unmarked place w u v h k =
-    sym (ap (λ o. on_value first_of_two (at_word place (or_refused UnknownMark o))) (not_first w u (v ∷ []) h ∙ ap one_further (not_first w v [] k)))
+pub unmarked : {A : Type 0} (f : ℕ → A) (place : ℕ) (w u v : List ℕ) → (w ≡ u → ⊥) → (w ≡ v → ⊥) → Err (line_fault UnknownMark place) ≡ on_value f (at_word place (read_field (mark u v) w))
+unmarked f place w u v h k =
+    sym (ap (λ o. on_value f (at_word place (or_refused UnknownMark o))) (not_first w u (v ∷ []) h ∙ ap one_further (not_first w v [] k)))
 
 -- the mark that a byte is
 mark_of : ℕ → Mark

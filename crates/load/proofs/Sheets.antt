@@ -23,6 +23,14 @@ pub outlined_ok : (r : Result Sheet Fault) (o : Outline) → Ok o ≡ outlined r
 outlined_ok (Ok s) o e = (s, refl, cc)
 outlined_ok (Err f) o e = let z : ◌≡◌ {A = ℕ} 0 1 = cc in absurd (omega arith)
 
+-- a fault was answered: it is the sheet's
+pub outlined_err : (r : Result Sheet Fault) (f : Fault) → Err f ≡ outlined r → r ≡ Err f
+outlined_err (Ok s) f e = let z : ◌≡◌ {A = ℕ} 0 1 = cc in absurd (omega arith)
+outlined_err (Err g) f e = cc
+
+pub refused_read : (z : Room) (bs : List ℕ) (f : Fault) → z ≡ largest_room → Err f ≡ outlined (read_sheet z bs) → read_sheet largest_room bs ≡ Err f
+refused_read z bs f room e = outlined_err (read_sheet largest_room bs) f (e ∙ ap (λ y. outlined (read_sheet y bs)) room)
+
 -- the front of a filled table is the sheet's section
 pub front_filled : {A : Type 0} (f : Sheet → List A) (r : Result Sheet Fault) (s : Sheet) (old now : List A) (n : ℕ) → r ≡ Ok s → now ≡ filled f r old → n ≡ length (f s) → take n now ≡ f s
 front_filled f r s old now n read is many =

@@ -51,16 +51,21 @@ fn digit_accepts(rule: Rule, digit: u32) -> bool
 }
 
 // The state after a label: every digit turns by its own rule.
-#[tactic(auto, using(crate::proofs::Turns::next_small, crate::proofs::Turns::third_below, crate::specs::InRange::digit_below))]
+// kept: a loop: a function that calls itself with the rest of the rules took more than twice as long
 pub(crate) fn next_state(rules: &[Rule], z: u32, label: u32) -> u32
     requires few { length rules.now ≤ 5 }
     requires there { z < 3 ^ length rules.now }
     ensures { result ≡ next_state rules.now z label }
 {
-    match rules {
-        [] => z,
-        [rule, rest @ ..] => digit_after(*rule, z % 3, label) + 3 * next_state(rest, z / 3, label),
+    let mut next = 0;
+    let mut place = 1;
+    let mut rest = z;
+    for rule in rules {
+        next += place * digit_after(*rule, rest % 3, label);
+        place *= 3;
+        rest /= 3;
     }
+    next
 }
 
 // Whether every rule accepts at its digit.

@@ -18,10 +18,10 @@ pub spells_none : (z : Room) (bs : List ℕ) (f : Fault) → read_sheet z bs ≡
 spells_none z bs f e s good is = err_ok f s (sym e ∙ ap (read_sheet z) (sym is) ∙ reads_back z s good)
 
 module _ (z : Room) (bs : List ℕ) (o : Outline) (ls : Lists) (got : read_sheet z bs ≡ Ok (sheet_of o ls)) (in' : Within o ls) where
-  well_formed : WellFormed z (sheet_of o ls)
+  pub well_formed : WellFormed z (sheet_of o ls)
   well_formed = (only_spellings z bs (sheet_of o ls) got).0
 
-  same_outline : outline_of (sheet_of o ls) ≡ o
+  pub same_outline : outline_of (sheet_of o ls) ≡ o
   same_outline = λ i. record {
     positions = length-take-le o.positions ls.positions in'.positions i;
     moves = length-take-le o.moves ls.moves in'.moves i;

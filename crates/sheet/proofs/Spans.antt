@@ -19,7 +19,7 @@ run_more p m ms s ih =
     let from : p < m.from → count_from p ms ≡ 0 = λ h. ap length (none_from p m.from ms h s) in
     grind (arith, nat_tests, common_steps)
 
-run_counts : (p f : ℕ) (ms : List Move) → NeverFalling f ms → prefix_len (λ m. eqb m.from p) (drop (count_before p ms) ms) ≡ count_from p ms
+pub run_counts : (p f : ℕ) (ms : List Move) → NeverFalling f ms → prefix_len (λ m. eqb m.from p) (drop (count_before p ms) ms) ≡ count_from p ms
 run_counts p f [] s = refl
 run_counts p f (m ∷ ms) s = run_more p m ms s.1 (run_counts p m.from ms s.1)
 

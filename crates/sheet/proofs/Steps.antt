@@ -14,22 +14,22 @@ use Rattle.sheet_format.specs.Sheets.{Sheet, Room}
 
 -- what is still read after each section
 module _ (z : Room) (ps : List Position) where
-  abbrev from_start : List Move → List Bool → List Arrow → List Rule → Reading Sheet
+  abbrev pub from_start : List Move → List Bool → List Arrow → List Rule → Reading Sheet
   from_start ms ss arrows rs = next_line (start_line (length ps)) >>= (λ start. done (record { positions = ps; moves = ms; states = ss; arrows = arrows; rules = rs; start = start }))
 
-  abbrev from_header : List Move → List Bool → List Arrow → List Rule → Reading Sheet
+  abbrev pub from_header : List Move → List Bool → List Arrow → List Rule → Reading Sheet
   from_header ms ss arrows rs = next_line (header (codes "start") 1 1 1) >>= (λ _. from_start ms ss arrows rs)
 
-  abbrev from_rules : List Move → List Bool → List Arrow → Reading Sheet
+  abbrev pub from_rules : List Move → List Bool → List Arrow → Reading Sheet
   from_rules ms ss arrows = section (codes "rules") 0 5 z.rules rule_line >>= from_header ms ss arrows
 
-  abbrev from_arrows : List Move → List Bool → Reading Sheet
+  abbrev pub from_arrows : List Move → List Bool → Reading Sheet
   from_arrows ms ss = section (codes "arrows") 0 (most_arrows (length ss)) z.arrows (arrow_line (length ss)) >>= from_rules ms ss
 
-  abbrev from_states : List Move → Reading Sheet
+  abbrev pub from_states : List Move → Reading Sheet
   from_states ms = section (codes "states") 0 64 z.states state_line >>= from_arrows ms
 
-  abbrev from_moves : Reading Sheet
+  abbrev pub from_moves : Reading Sheet
   from_moves = section (codes "moves") 0 4096 z.moves (move_line ps) >>= from_states
 
 -- the readings before the start line were made, and that line gave r

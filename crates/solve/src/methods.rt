@@ -1,11 +1,36 @@
-// What a plan answers.
+// What a plan and a verdict answer.
 ghost use Rattle.std.specs.Prelude.{◌≡◌, take};
 ghost use Rattle.std.specs.List.{slice_get};
 ghost use Rattle.cells.specs.Said.{plan_cell};
+ghost use Rattle.solve.specs.Verdicts.{verdict_word};
 
 use crate::plan::Plan;
 use crate::verdict::Verdict;
 use cells::Cell;
+
+impl Verdict {
+    /// The word that is printed for the verdict.
+    pub fn word(self) -> &'static [u8]
+        ensures { result.now ≡ verdict_word self }
+    {
+        match self {
+            Verdict::Within => b"within",
+            Verdict::Over => b"over",
+            Verdict::Never => b"never",
+        }
+    }
+
+    /// The word that is printed for the verdict, as text.
+    pub fn text(self) -> &'static str
+        ensures { result.now ≡ verdict_word self }
+    {
+        match self {
+            Verdict::Within => "within",
+            Verdict::Over => "over",
+            Verdict::Never => "never",
+        }
+    }
+}
 
 impl<'a, C> Plan<'a, C> {
     /// The number of rounds.

@@ -17,10 +17,6 @@ impl fmt::Display for Verdict {
     ghost output = { λ v. Some (verdict_word v) };
 
     fn fmt<W: fmt::Write>(&self, f: &mut fmt::Formatter<W>) -> fmt::Result {
-        f.write_str(match self {
-            Verdict::Within => "within",
-            Verdict::Over => "over",
-            Verdict::Never => "never",
-        })
+        f.write_str(self.text())
     }
 }

@@ -15,6 +15,19 @@ pub enum CostKind {
     Care,
 }
 
+impl CostKind {
+    /// The word of the kind.
+    pub fn word(self) -> &'static str
+        ensures { result.now ≡ kind_word self }
+    {
+        match self {
+            CostKind::Energy => "energy",
+            CostKind::Peak => "peak",
+            CostKind::Care => "care",
+        }
+    }
+}
+
 /// The word is no kind of cost.
 #[derive(Clone, Copy, Debug, PartialEq)]
 pub struct UnknownKind;
@@ -51,10 +64,6 @@ impl fmt::Display for CostKind {
     ghost output = { λ k. Some (kind_word k) };
 
     fn fmt<W: fmt::Write>(&self, f: &mut fmt::Formatter<W>) -> fmt::Result {
-        f.write_str(match self {
-            CostKind::Energy => "energy",
-            CostKind::Peak => "peak",
-            CostKind::Care => "care",
-        })
+        f.write_str(self.word())
     }
 }

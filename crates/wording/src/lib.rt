@@ -4,7 +4,9 @@
 mod kinds;
 mod named;
 mod texts;
+mod turns;
 
 pub use kinds::{CostKind, UnknownKind};
 pub use named::Named;
 pub use texts::{ChoiceText, CostText};
+pub use turns::turn_mark;

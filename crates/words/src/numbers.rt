@@ -1,10 +1,23 @@
 // What a word says.
-ghost use Rattle.std.specs.Prelude.{◌≡◌, ℕ, min, MatchOption, ◌≢◌};
+ghost use Rattle.std.specs.Prelude.{◌≡◌, ℕ, ◌+◌, ◌*◌, ◌<◌, min, MatchOption, ◌≢◌};
 ghost use Rattle.std.specs.Str.Parse.{digits_value};
 ghost use Rattle.words.specs.Kinds.{mark_word, number_word, Says, word_bytes};
 ghost use Rattle.words.specs.Numerals.{Numeral};
 
 use crate::parts::{Mark, Word};
+
+// A number with one digit more, or the greatest number of 64 bits where it is larger.
+fn with_digit(n: u64, digit: u64) -> u64
+    requires { digit < 10 }
+    ensures { result ≡ min (min (n * 10) 18446744073709551615 + digit) 18446744073709551615 }
+{
+    // kept: a number that is far from the greatest is added plainly, since stopping there takes twice as long for each digit
+    if n < 1000000000000000000 {
+        n * 10 + digit
+    } else {
+        n.saturating_mul(10).saturating_add(digit)
+    }
+}
 
 /// The value of a numeral, or the greatest number of 64 bits where it is larger.
 #[tactic(auto, using(crate::proofs::Digits::other_byte))]
@@ -20,7 +33,7 @@ pub fn numeral(word: &[u8]) -> Option<u64>
         if !b.is_ascii_digit() {
             return None;
         }
-        n = n.saturating_mul(10).saturating_add(u64::from(*b - b'0'));
+        n = with_digit(n, u64::from(*b - b'0'));
     }
     Some(n)
 }
